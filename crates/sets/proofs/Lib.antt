@@ -1,0 +1,9 @@
+pub mod Bits
+pub mod Tallies
+pub mod Leasts
+pub mod Everys
+pub mod Gather
+pub mod Passing
+pub mod Warshall
+pub mod Room
+pub mod Membership
