@@ -1,0 +1,2 @@
+// The graphs that people build.
+pub mod table;
