@@ -1,3 +1,5 @@
 // Worked cases: what the library answers on small graphs.
+#![tactic(auto)]
+
 #[cfg(test)]
 mod tests;

@@ -53,9 +53,9 @@ impl Projection {
     // Takes the order of `graph` at `opcode`. Refuses if the opcode is not allowed, then if events
     // precede themselves; the place is then as it was.
     pub fn project<G: Graph>(&mut self, graph: &G, opcode: u16) -> Result<(), Refusal>
-        ensures answer { result_err result ≡ no_order (meaning graph.now) opcode }
-        ensures after { Placed (meaning graph.now) opcode self.old self.new result }
-        ensures law { (meaning graph.now).allow opcode ≡ true → Projects (meaning graph.now) opcode (order_at (meaning graph.now) opcode) }
+        ensures answer { result_err result ≡ no_order (G.meaning graph.now) opcode }
+        ensures after { Placed (G.meaning graph.now) opcode self.old self.new result }
+        ensures law { (G.meaning graph.now).allow opcode ≡ true → Projects (G.meaning graph.now) opcode (order_at (G.meaning graph.now) opcode) }
     {
         if !graph.allow(opcode) {
             return Err(Refusal::NotAllowed);
@@ -72,8 +72,8 @@ impl Projection {
 
     // The present events and the chains, whether or not the opcode is allowed.
     fn draw<G: Graph>(graph: &G, opcode: u16) -> Projection
-        ensures value { seen result ≡ order_at (meaning graph.now) opcode }
-        ensures law { Projects (meaning graph.now) opcode (seen result) }
+        ensures value { seen result ≡ order_at (G.meaning graph.now) opcode }
+        ensures law { Projects (G.meaning graph.now) opcode (seen result) }
     {
         let here = present(graph, opcode);
         let mut before = counted(graph, here, opcode);
@@ -94,14 +94,14 @@ impl Projection {
 
 // The events that are there at `opcode`.
 pub fn present<G: Graph>(graph: &G, opcode: u16) -> Events
-    ensures { (e : ℕ) → member result e ≡ (meaning graph.now).has e opcode }
+    ensures { (e : ℕ) → member result e ≡ (G.meaning graph.now).has e opcode }
 {
     present_below(graph, graph.events(), opcode)
 }
 
 // Those below `end`, which are all if every event is.
 fn present_below<G: Graph>(graph: &G, end: u8, opcode: u16) -> Events
-    ensures { (meaning graph.now).events ≤ end → (e : ℕ) → member result e ≡ (meaning graph.now).has e opcode }
+    ensures { (G.meaning graph.now).events ≤ end → (e : ℕ) → member result e ≡ (G.meaning graph.now).has e opcode }
 {
     let mut here = Events::none();
     for event in 0..end {
@@ -112,7 +112,7 @@ fn present_below<G: Graph>(graph: &G, end: u8, opcode: u16) -> Events
 
 // The events of `here` that have an arc to `to`.
 fn arcs_to<G: Graph>(graph: &G, here: Events, to: u8, opcode: u16) -> Events
-    ensures { (e : ℕ) → member result e ≡ (member here e && (meaning graph.now).arc e to opcode) }
+    ensures { (e : ℕ) → member result e ≡ (member here e && (G.meaning graph.now).arc e to opcode) }
 {
     let mut row = Events::none();
     for from in 0..graph.events() {
@@ -123,22 +123,22 @@ fn arcs_to<G: Graph>(graph: &G, here: Events, to: u8, opcode: u16) -> Events
 
 // Whether `from` is in `here` and has an arc to `to`: an absent event's conditions are not asked.
 fn leads<G: Graph>(graph: &G, here: Events, from: u8, to: u8, opcode: u16) -> bool
-    ensures { result ≡ (member here from && (meaning graph.now).arc from to opcode) }
+    ensures { result ≡ (member here from && (G.meaning graph.now).arc from to opcode) }
 {
     here.has(from) && graph.arc(from, to, opcode)
 }
 
 // The arcs that count: those that are there between present events.
 pub fn counted_arcs<G: Graph>(graph: &G, opcode: u16) -> Relation
-    ensures { (e f : ℕ) → related result e f ≡ counted (meaning graph.now) opcode e f }
+    ensures { (e f : ℕ) → related result e f ≡ counted (G.meaning graph.now) opcode e f }
 {
     counted(graph, present(graph, opcode), opcode)
 }
 
 // The counted arcs, given the present events.
 fn counted<G: Graph>(graph: &G, here: Events, opcode: u16) -> Relation
-    requires { (e : ℕ) → member here e ≡ (meaning graph.now).has e opcode }
-    ensures { (e f : ℕ) → related result e f ≡ counted (meaning graph.now) opcode e f }
+    requires { (e : ℕ) → member here e ≡ (G.meaning graph.now).has e opcode }
+    ensures { (e f : ℕ) → related result e f ≡ counted (G.meaning graph.now) opcode e f }
 {
     let mut arcs = Relation::none();
     for to in 0..graph.events() {

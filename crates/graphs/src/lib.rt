@@ -1,2 +1,4 @@
 // The graphs that people build.
+#![tactic(auto)]
+
 pub mod table;

@@ -1,5 +1,7 @@
 // Prints the records of two sample procedures: what can come of each at every opcode.
-ghost use Rattle.std.specs.Prelude.{[], if_then_else_, codes, nat_eq};
+#![tactic(auto)]
+
+ghost use Rattle.std.specs.Prelude.{[], if◌then◌else◌, codes, nat_eq};
 
 use anyhow::anyhow;
 use cpog::action::Action;

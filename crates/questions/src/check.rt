@@ -36,8 +36,8 @@ pub struct Checked {
 // Refuses actions that cannot be carried out, then a buffer of under 32 bytes, and then leaves
 // the buffer as it was.
 pub fn check<G: Graph>(graph: &G, actions: &[Action], buffer: &mut [u8]) -> Result<Checked, Refusal>
-    ensures answer { result_err result ≡ unasked (meaning graph.now) actions.now (length buffer.old) }
-    ensures after { Told (meaning graph.now) actions.now buffer.old buffer.new result }
+    ensures answer { result_err result ≡ unasked (G.meaning graph.now) actions.now (length buffer.old) }
+    ensures after { Told (G.meaning graph.now) actions.now buffer.old buffer.new result }
 {
     if !actions_fit(actions, graph.events()) {
         return Err(Refusal::BadActions);
@@ -55,7 +55,7 @@ pub fn check<G: Graph>(graph: &G, actions: &[Action], buffer: &mut [u8]) -> Resu
 }
 
 fn count_allowed<G: Graph>(graph: &G) -> u16
-    ensures { result ≡ tally (meaning graph.now).allow 256 }
+    ensures { result ≡ tally (G.meaning graph.now).allow 256 }
 {
     let mut allowed = 0;
     for opcode in 0..256u16 {
@@ -65,9 +65,9 @@ fn count_allowed<G: Graph>(graph: &G) -> u16
 }
 
 fn judge<G: Graph>(graph: &G, actions: &[Action]) -> Verdict
-    ensures value { result ≡ verdict (meaning graph.now) actions.now }
-    ensures law { Verdicts (meaning graph.now) actions.now result }
-    ensures cyclic { (o : ℕ) → result ≡ Verdict.Cycle o → Acyclic (counted (meaning graph.now) o) → ⊥ }
+    ensures value { result ≡ verdict (G.meaning graph.now) actions.now }
+    ensures law { Verdicts (G.meaning graph.now) actions.now result }
+    ensures cyclic { (o : ℕ) → result ≡ Verdict.Cycle o → Acyclic (counted (G.meaning graph.now) o) → ⊥ }
 {
     match least_flawed(graph, actions) {
         Some(opcode) => flaw(opcode, outcome_at(graph, actions, opcode)),
@@ -77,7 +77,7 @@ fn judge<G: Graph>(graph: &G, actions: &[Action]) -> Verdict
 
 // The least opcode that has a cycle or a clash.
 fn least_flawed<G: Graph>(graph: &G, actions: &[Action]) -> Option<u16>
-    ensures { result ≡ least_flawed (meaning graph.now) actions.now }
+    ensures { result ≡ least_flawed (G.meaning graph.now) actions.now }
 {
     for opcode in 0..256u16 {
         if is_flawed(outcome_at(graph, actions, opcode)) {
@@ -113,8 +113,8 @@ fn flaw(opcode: u16, outcome: Option<Outcome>) -> Verdict
 // Brings what the verdict is about to the start of the buffer, and says of how many events.
 fn show<G: Graph>(graph: &G, verdict: Verdict, buffer: &mut [u8]) -> usize
     requires long { 32 ≤ length buffer.old }
-    requires cyclic { (o : ℕ) → verdict ≡ Verdict.Cycle o → Acyclic (counted (meaning graph.now) o) → ⊥ }
-    ensures { Shown (meaning graph.now) buffer.old buffer.new result verdict }
+    requires cyclic { (o : ℕ) → verdict ≡ Verdict.Cycle o → Acyclic (counted (G.meaning graph.now) o) → ⊥ }
+    ensures { Shown (G.meaning graph.now) buffer.old buffer.new result verdict }
 {
     match verdict {
         Verdict::Sound => 0,
@@ -125,8 +125,8 @@ fn show<G: Graph>(graph: &G, verdict: Verdict, buffer: &mut [u8]) -> usize
 
 fn show_cycle<G: Graph>(graph: &G, opcode: u16, buffer: &mut [u8]) -> usize
     requires long { 32 ≤ length buffer.old }
-    requires cyclic { Acyclic (counted (meaning graph.now) opcode) → ⊥ }
-    ensures { Shown (meaning graph.now) buffer.old buffer.new result (Verdict.Cycle opcode) }
+    requires cyclic { Acyclic (counted (G.meaning graph.now) opcode) → ⊥ }
+    ensures { Shown (G.meaning graph.now) buffer.old buffer.new result (Verdict.Cycle opcode) }
 {
     match find_cycle(graph, opcode) {
         Some(cycle) => write_start(buffer, cycle.as_slice()),

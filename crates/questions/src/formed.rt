@@ -14,8 +14,8 @@ pub enum WellFormed {
 
 // Yes exactly if no allowed opcode has a cycle.
 pub fn well_formed<G: Graph>(graph: &G) -> WellFormed
-    ensures value { result ≡ formed (meaning graph.now) }
-    ensures law { Formed (meaning graph.now) result }
+    ensures value { result ≡ formed (G.meaning graph.now) }
+    ensures law { Formed (G.meaning graph.now) result }
 {
     match least_cyclic(graph) {
         Some(opcode) => WellFormed::No(opcode),
@@ -24,8 +24,8 @@ pub fn well_formed<G: Graph>(graph: &G) -> WellFormed
 }
 
 fn least_cyclic<G: Graph>(graph: &G) -> Option<u16>
-    ensures value { result ≡ least_cyclic (meaning graph.now) }
-    ensures law { Formed (meaning graph.now) (no_unless result) }
+    ensures value { result ≡ least_cyclic (G.meaning graph.now) }
+    ensures law { Formed (G.meaning graph.now) (no_unless result) }
 {
     for opcode in 0..256u16 {
         if has_cycle(graph, opcode) {
@@ -37,7 +37,7 @@ fn least_cyclic<G: Graph>(graph: &G) -> Option<u16>
 
 // Whether `opcode` is allowed and has a cycle.
 fn has_cycle<G: Graph>(graph: &G, opcode: u16) -> bool
-    ensures { result ≡ cyclic (meaning graph.now) opcode }
+    ensures { result ≡ cyclic (G.meaning graph.now) opcode }
 {
     let mut place = Projection::new();
     graph.allow(opcode) && place.project(graph, opcode).is_err()

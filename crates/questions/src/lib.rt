@@ -1,4 +1,6 @@
 // Questions about whole graphs: what can come of a run, at one opcode and at all of them.
+#![tactic(auto)]
+
 pub mod check;
 pub mod formed;
 pub mod outcome;

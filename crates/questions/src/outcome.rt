@@ -21,8 +21,8 @@ pub enum Outcome {
 
 // None where the opcode is not allowed. A cycle comes before a clash.
 pub fn outcome_at<G: Graph>(graph: &G, actions: &[Action], opcode: u16) -> Option<Outcome>
-    ensures value { result ≡ outcome_at (meaning graph.now) actions.now opcode }
-    ensures law { Comes (meaning graph.now) actions.now opcode result }
+    ensures value { result ≡ outcome_at (G.meaning graph.now) actions.now opcode }
+    ensures law { Comes (G.meaning graph.now) actions.now opcode result }
 {
     if !graph.allow(opcode) {
         return None;

@@ -27,7 +27,7 @@ pub fn record<G: Graph, N: Names>(
     names: &N,
     actions: &[Action],
 ) -> Result<Vec<u8>, Failure>
-    ensures { MatchResult result (λ out. Whole (naming names.now) (meaning graph.now) actions.now out.items) (λ why. Failed (meaning graph.now) actions.now why) }
+    ensures { MatchResult result (λ out. Whole (N.naming names.now) (G.meaning graph.now) actions.now out.items) (λ why. Failed (G.meaning graph.now) actions.now why) }
 {
     let mut buffer = [0u8; 32];
     match check(graph, actions, &mut buffer) {
@@ -46,9 +46,9 @@ fn written<G: Graph, N: Names>(
     actions: &[Action],
     checked: Checked,
 ) -> Result<Vec<u8>, AllocError>
-    requires allowed_value { checked.allowed ≡ tally (meaning graph.now).allow 256 }
-    requires verdict_value { checked.verdict ≡ verdict (meaning graph.now) actions.now }
-    ensures { IfOk result (λ out. Whole (naming names.now) (meaning graph.now) actions.now out.items) }
+    requires counts { checked.allowed ≡ tally (G.meaning graph.now).allow 256 }
+    requires judges { checked.verdict ≡ verdict (G.meaning graph.now) actions.now }
+    ensures { IfOk result (λ out. Whole (N.naming names.now) (G.meaning graph.now) actions.now out.items) }
 {
     let mut out = Vec::new(heap);
     put_heading(heap, &mut out, names, graph.events(), checked.allowed)?;
@@ -64,7 +64,7 @@ fn put_heading<N: Names>(
     events: u8,
     allowed: u16,
 ) -> Result<(), AllocError>
-    ensures { OnOk result (out.new.items ≡ out.old.items ++ heading (naming names.now) events allowed) }
+    ensures { OnOk result (out.new.items ≡ out.old.items ++ heading (N.naming names.now) events allowed) }
 {
     put_line(out, b"proc=", names.title())?;
     put_number_line(heap, out, b"events=", u16::from(events))?;
@@ -81,7 +81,7 @@ fn put_opcodes<G: Graph, N: Names>(
     names: &N,
     actions: &[Action],
 ) -> Result<(), AllocError>
-    ensures { OnOk result ((lines : List ℕ) × (Lines (naming names.now) (meaning graph.now) actions.now 256 lines × (out.new.items ≡ out.old.items ++ lines))) }
+    ensures { OnOk result ((lines : List ℕ) × (Lines (N.naming names.now) (G.meaning graph.now) actions.now 256 lines × (out.new.items ≡ out.old.items ++ lines))) }
 {
     for opcode in 0..256u16 {
         put_if_allowed(heap, out, graph, names, actions, opcode)?;
@@ -97,7 +97,7 @@ fn put_if_allowed<G: Graph, N: Names>(
     actions: &[Action],
     opcode: u16,
 ) -> Result<(), AllocError>
-    ensures { OnOk result ((text : List ℕ) × (LineOf (naming names.now) (meaning graph.now) opcode (outcome_at (meaning graph.now) actions.now opcode) text × (out.new.items ≡ out.old.items ++ text))) }
+    ensures { OnOk result ((text : List ℕ) × (LineOf (N.naming names.now) (G.meaning graph.now) opcode (outcome_at (G.meaning graph.now) actions.now opcode) text × (out.new.items ≡ out.old.items ++ text))) }
 {
     match outcome_at(graph, actions, opcode) {
         Some(outcome) => {
@@ -116,8 +116,8 @@ fn put_opcode<G: Graph, N: Names>(
     opcode: u16,
     outcome: Outcome,
 ) -> Result<(), AllocError>
-    requires { outcome ≡ Cycle → Acyclic (counted (meaning graph.now) opcode) → ⊥ }
-    ensures { OnOk result ((text : List ℕ) × (LineOf (naming names.now) (meaning graph.now) opcode (Some outcome) text × (out.new.items ≡ out.old.items ++ text))) }
+    requires { outcome ≡ Cycle → Acyclic (counted (G.meaning graph.now) opcode) → ⊥ }
+    ensures { OnOk result ((text : List ℕ) × (LineOf (N.naming names.now) (G.meaning graph.now) opcode (Some outcome) text × (out.new.items ≡ out.old.items ++ text))) }
 {
     put_opening(heap, out, opcode, present(graph, opcode).count())?;
     put_outcome(out, graph, names, opcode, outcome)?;
@@ -142,8 +142,8 @@ fn put_outcome<G: Graph, N: Names>(
     opcode: u16,
     outcome: Outcome,
 ) -> Result<(), AllocError>
-    requires { outcome ≡ Cycle → Acyclic (counted (meaning graph.now) opcode) → ⊥ }
-    ensures { OnOk result ((text : List ℕ) × (Words (naming names.now) (meaning graph.now) opcode outcome text × (out.new.items ≡ out.old.items ++ text))) }
+    requires { outcome ≡ Cycle → Acyclic (counted (G.meaning graph.now) opcode) → ⊥ }
+    ensures { OnOk result ((text : List ℕ) × (Words (N.naming names.now) (G.meaning graph.now) opcode outcome text × (out.new.items ≡ out.old.items ++ text))) }
 {
     match outcome {
         Outcome::OneResult => {
@@ -168,8 +168,8 @@ fn put_cycle<G: Graph, N: Names>(
     names: &N,
     opcode: u16,
 ) -> Result<(), AllocError>
-    requires { Acyclic (counted (meaning graph.now) opcode) → ⊥ }
-    ensures { OnOk result ((es : List ℕ) × (IsCycle (counted (meaning graph.now) opcode) es × (out.new.items ≡ out.old.items ++ (codes " cycle" ++ spelled (naming names.now) es)))) }
+    requires { Acyclic (counted (G.meaning graph.now) opcode) → ⊥ }
+    ensures { OnOk result ((es : List ℕ) × (IsCycle (counted (G.meaning graph.now) opcode) es × (out.new.items ≡ out.old.items ++ (codes " cycle" ++ spelled (N.naming names.now) es)))) }
 {
     put(out, b" cycle")?;
     match find_cycle(graph, opcode) {
@@ -202,7 +202,7 @@ fn put_verdict(heap: Global, out: &mut Vec<u8>, verdict: Verdict) -> Result<(), 
 
 // A blank and the name of each event.
 fn put_names<N: Names>(out: &mut Vec<u8>, names: &N, events: &[u8]) -> Result<(), AllocError>
-    ensures { OnOk result (out.new.items ≡ out.old.items ++ spelled (naming names.now) events.now) }
+    ensures { OnOk result (out.new.items ≡ out.old.items ++ spelled (N.naming names.now) events.now) }
 {
     for event in events {
         put_name(out, names, *event)?;
@@ -211,7 +211,7 @@ fn put_names<N: Names>(out: &mut Vec<u8>, names: &N, events: &[u8]) -> Result<()
 }
 
 fn put_name<N: Names>(out: &mut Vec<u8>, names: &N, event: u8) -> Result<(), AllocError>
-    ensures { OnOk result (out.new.items ≡ out.old.items ++ 32 ∷ (naming names.now).name event) }
+    ensures { OnOk result (out.new.items ≡ out.old.items ++ 32 ∷ (N.naming names.now).name event) }
 {
     put(out, b" ")?;
     put(out, names.name(event))?;

@@ -14,7 +14,7 @@ use sets::relation::Relation;
 
 // A cycle of counted arcs at `opcode`, if there is one. Which of several is not said.
 pub fn find_cycle<G: Graph>(graph: &G, opcode: u16) -> Option<Cycle>
-    ensures { Found (counted (meaning graph.now) opcode) result }
+    ensures { Found (counted (G.meaning graph.now) opcode) result }
 {
     let arcs = counted_arcs(graph, opcode);
     cycle_of(&arcs)
@@ -35,7 +35,7 @@ fn cycle_of(arcs: &Relation) -> Option<Cycle>
 
 fn walk_round(arcs: &Relation, around: Events, start: u8) -> Cycle
     requires fed { Fed (related arcs.now) (member around) }
-    requires start_value { member around start ≡ true }
+    requires inside { member around start ≡ true }
     ensures { Found (related arcs.now) (Some result) }
 {
     let mut walk = [0u8; 32];
@@ -47,7 +47,7 @@ fn walk_round(arcs: &Relation, around: Events, start: u8) -> Cycle
 // its last; says at which place that event stands, and at which the last.
 fn walk_back(arcs: &Relation, around: Events, start: u8, walk: &mut [u8; 32]) -> (usize, usize)
     requires fed { Fed (related arcs.now) (member around) }
-    requires start_value { member around start ≡ true }
+    requires inside { member around start ≡ true }
     ensures { Turn (related arcs.now) walk.new result.0 result.1 }
 {
     walk[0] = start;
@@ -82,8 +82,8 @@ fn place_in(row: Events, walk: &[u8; 32], len: usize) -> Option<usize>
 
 // The walk from place `last` down to `from`.
 fn turned(walk: &[u8; 32], from: usize, last: usize) -> Cycle
-    requires from_le_last { from ≤ last }
-    requires last_bound { last < 32 }
+    requires rising { from ≤ last }
+    requires few { last < 32 }
     ensures { Turned walk.now from last result.events result.len }
 {
     let mut events = [0u8; 32];

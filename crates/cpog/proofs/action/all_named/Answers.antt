@@ -4,8 +4,8 @@ use Rattle.sets.proofs.Everys.{every_value}
 use Rattle.cpog.specs.Actions.{act, named}
 use Rattle.cpog.proofs.action.all_named.Goals as goal
 
-pub returns-then-not-names-registers : goal.returns-then-not-names-registers
-returns-then-not-names-registers c =
+pub returns-then-not-names_registers : goal.returns-then-not-names_registers
+returns-then-not-names_registers c =
     let p : ℕ → Bool = λ e. named (act c.args.actions.now e) in
     let bad : p c.loop-event.event ≡ false = search rules in
     let law : Decides false ((e : ℕ) → e < c.args.events → p e ≡ true) = (λ f. absurd (both_ways false refl f), λ all. absurd (both_ways (p c.loop-event.event) bad (all c.loop-event.event (omega arith)))) in

@@ -17,8 +17,8 @@ loop-to-preserved g c =
     let rows = related c.loop-to.arcs in
     elim c.if-has.branch [
       | then-has w ↦ subst (λ (r : Relation). RowsBelow m o (i + 1) (related r)) (sym w.arcs-is)
-          (rows_add m o i rows (related w.put.new.self) (member w.arcs-to.result) (omega (arith, (g.met.G.Graph.lawful c.args.graph.now).few_events)) c.loop-to.invariant
-          (sym (c.requires i) ∙ sym w.if-has.ensures) w.put.ensures (λ e. let a = w.arcs-to.ensures e in let p = c.requires e in cc))
+          (rows_add m o i rows (related w.put.new.self) (member w.arcs_to.result) (omega (arith, (g.met.G.Graph.lawful c.args.graph.now).few_events)) c.loop-to.invariant
+          (sym (c.requires i) ∙ sym w.if-has.ensures) w.put.ensures (λ e. let a = w.arcs_to.ensures e in let p = c.requires e in cc))
       | else-has w ↦ subst (λ (r : Relation). RowsBelow m o (i + 1) (related r)) (sym w.arcs-is)
           (rows_skip m o i rows c.loop-to.invariant (sym (c.requires i) ∙ sym w.if-has.ensures))
     ]

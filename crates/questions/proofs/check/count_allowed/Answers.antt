@@ -3,8 +3,8 @@ use mir.Val.{bool_byte}
 use Rattle.sets.proofs.Tallies.{tally_none, tally_more, byte_le}
 use Rattle.questions.proofs.check.count_allowed.Goals as goal
 
-pub overflow-add-allowed : goal.overflow-add-allowed
-overflow-add-allowed g c = omega (arith, byte_le c.allow.result)
+pub overflow_add-allowed : goal.overflow_add-allowed
+overflow_add-allowed g c = omega (arith, byte_le c.allow.result)
 
 pub loop-opcode-init : goal.loop-opcode-init
 loop-opcode-init g c = (omega arith, sym (tally_none (g.G.Graph.meaning c.args.graph.now).allow))

@@ -19,7 +19,7 @@ returns-in-Ok g c =
     let m = g.G.Graph.meaning c.args.graph.now in
     let o = c.args.opcode in
     let actions = c.args.actions.now in
-    let is : c.clash-in.result ≡ clash_or_none (first_clash (order_at m o) actions) =
-    c.clash-in.ensures ∙ ap (λ (p : Order). clash_or_none (first_clash p actions)) c.in-Ok.ensures.after in
-    let value : Some c.clash-in.result ≡ outcome_at m actions o = ap Some is ∙ accepted_rest (m.allow o) (on_cycle (order_at m o)) (clash_or_none (first_clash (order_at m o) actions)) c.in-Ok.ensures.answer in
+    let is : c.clash_in.result ≡ clash_or_none (first_clash (order_at m o) actions) =
+    c.clash_in.ensures ∙ ap (λ (p : Order). clash_or_none (first_clash p actions)) c.in-Ok.ensures.after in
+    let value : Some c.clash_in.result ≡ outcome_at m actions o = ap Some is ∙ accepted_rest (m.allow o) (on_cycle (order_at m o)) (clash_or_none (first_clash (order_at m o) actions)) c.in-Ok.ensures.answer in
     record { value = value; law = value_comes m actions o _ (g.met.G.Graph.lawful c.args.graph.now) value }

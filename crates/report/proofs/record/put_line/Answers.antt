@@ -6,4 +6,4 @@ pub returns : goal.returns
 returns c =
     joined_3 (vec_items c.args.out.now) (vec_items c.put.new.out) (vec_items c.put-2.new.out) (vec_items c.put-3.new.out)
     c.args.key.now c.args.value.now (10 ∷ [])
-    c.in-ok-put.ensures c.in-ok-put-2.ensures c.in-ok-put-3.ensures
+    c.in_ok-put.ensures c.in_ok-put-2.ensures c.in_ok-put-3.ensures

@@ -10,7 +10,7 @@ loop-event-preserved g c =
     let events = c.args.events.now in
     let i = c.loop-event.event-index in
     let start = vec_items c.args.out.now in
-    c.in-ok-put-name.ensures ∙ ap (λ (bs : List ℕ). bs ++ 32 ∷ names.name (get_or events i 0)) c.loop-event.invariant ∙ append_assoc start (spelled names (take i events)) (32 ∷ names.name (get_or events i 0))
+    c.in_ok-put_name.ensures ∙ ap (λ (bs : List ℕ). bs ++ 32 ∷ names.name (get_or events i 0)) c.loop-event.invariant ∙ append_assoc start (spelled names (take i events)) (32 ∷ names.name (get_or events i 0))
     ∙ ap (λ (bs : List ℕ). start ++ bs) (sym (spelled_more names events i (omega arith)))
 
 pub returns : goal.returns

@@ -3,4 +3,4 @@ use Rattle.report.proofs.record.put_number.Goals as goal
 
 pub returns : goal.returns
 returns c =
-    c.in-ok-put.ensures ∙ ap (λ (bs : List ℕ). vec_items c.args.out.now ++ bs) (c.as-bytes.ensures.value ∙ c.in-ok-digits.ensures.ok)
+    c.in_ok-put.ensures ∙ ap (λ (bs : List ℕ). vec_items c.args.out.now ++ bs) (c.as_bytes.ensures.value ∙ c.in_ok-digits.ensures.ok)

@@ -9,13 +9,13 @@ returns g c =
     let m = g.G.Graph.meaning c.args.graph.now in
     let o = c.args.opcode in
     let start : List ℕ = vec_items c.args.out.now in
-    let words = c.in-ok-put-outcome.ensures in
+    let words = c.in_ok-put_outcome.ensures in
     let count : c.count.result ≡ tally (λ e. m.has e o) 32 = c.count.ensures ∙ ap (λ (test : ℕ → Bool). tally test 32) (fun_ext c.present.ensures) in
-    let front : vec_items c.put-opening.new.out ≡ start ++ opening o (tally (λ e. m.has e o) 32) =
-    c.in-ok-put-opening.ensures ∙ ap (λ (n : ℕ). start ++ opening o n) count in
-    let said : vec_items c.put-outcome.new.out ≡ start ++ (opening o (tally (λ e. m.has e o) 32) ++ words.0) =
+    let front : vec_items c.put_opening.new.out ≡ start ++ opening o (tally (λ e. m.has e o) 32) =
+    c.in_ok-put_opening.ensures ∙ ap (λ (n : ℕ). start ++ opening o n) count in
+    let said : vec_items c.put_outcome.new.out ≡ start ++ (opening o (tally (λ e. m.has e o) 32) ++ words.0) =
     words.1.1 ∙ ap (λ (bs : List ℕ). bs ++ words.0) front ∙ append_assoc start (opening o (tally (λ e. m.has e o) 32)) words.0 in
-    let pushed : vec_items c.put.new.out ≡ vec_items c.put-outcome.new.out ++ 10 ∷ [] = c.in-ok-put.ensures in (
+    let pushed : vec_items c.put.new.out ≡ vec_items c.put_outcome.new.out ++ 10 ∷ [] = c.in_ok-put.ensures in (
       opening o (tally (λ e. m.has e o) 32) ++ (words.0 ++ 10 ∷ []),
       (
         (words.0, (words.1.0, refl)),

@@ -10,7 +10,7 @@ loop-opcode-init g c =
 pub loop-opcode-preserved : goal.loop-opcode-preserved
 loop-opcode-preserved g c =
     let so_far = c.loop-opcode.invariant in
-    let new = c.in-ok-put-if-allowed.ensures in (
+    let new = c.in_ok-put_if_allowed.ensures in (
       so_far.0 ++ new.0,
       (
         lines_more (g.N.Names.naming c.args.names.now) (g.G.Graph.meaning c.args.graph.now) c.args.actions.now c.loop-opcode.opcode so_far.0 new.0 so_far.1.0 new.1.0,

@@ -7,8 +7,8 @@ use Rattle.cpog.specs.Projections.{seen}
 use Rattle.searches.proofs.Clashing.{searched}
 use Rattle.searches.proofs.clash.first_lower.Goals as goal
 
-pub returns-then-is-some : goal.returns-then-is-some
-returns-then-is-some c =
+pub returns-then-is_some : goal.returns-then-is_some
+returns-then-is_some c =
     let order = seen c.args.projection.now in
     let actions = c.args.actions.now in
     let test : ℕ → Bool = λ e. is_some (partner_of order actions e) in

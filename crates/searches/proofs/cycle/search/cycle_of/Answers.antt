@@ -8,17 +8,17 @@ use Rattle.searches.specs.Cycles.{round}
 use Rattle.searches.proofs.Walking.{chain_fed, cycle_map, cycle_chain}
 use Rattle.searches.proofs.cycle.search.cycle_of.Goals as goal
 
-pub walk-round-requires : goal.walk-round-requires
-walk-round-requires c = (
-  λ e t.
+pub walk_round-requires : goal.walk_round-requires
+walk_round-requires c = record {
+  fed = λ e t.
       let fed = chain_fed (c.close.ensures.chains.sound e e (sym (c.selves-around.ensures e) ∙ t)) in
       let f = fed.0 in
-      (f, (c.selves-around.ensures f ∙ c.close.ensures.chains.complete f f fed.1.0, fed.1.1)),
-  c.in-Some.ensures.least.1,
-)
+      (f, (c.selves-around.ensures f ∙ c.close.ensures.chains.complete f f fed.1.0, fed.1.1));
+  inside = c.in-Some.ensures.least.1;
+}
 
 pub returns-in-Some : goal.returns-in-Some
-returns-in-Some c steps same = cycle_map (related c.args.arcs.now) steps (round c.walk-round.result) (λ e f t. sym (same e f) ∙ t) c.walk-round.ensures
+returns-in-Some c steps same = cycle_map (related c.args.arcs.now) steps (round c.walk_round.result) (λ e f t. sym (same e f) ∙ t) c.walk_round.ensures
 
 pub returns-in-None : goal.returns-in-None
 returns-in-None c steps same =
