@@ -3,7 +3,7 @@ ghost use Rattle.std.specs.Prelude.{◌≡◌, ◌<◌};
 ghost use Rattle.sets.specs.Counting.{bit};
 ghost use Rattle.graphs.specs.Tables.{condition};
 ghost use Rattle.graphs.specs.Filled.{tabled};
-ghost use Rattle.std.proofs.Common.{rules, arith};
+ghost use Rattle.std.proofs.Common.{rules};
 
 use crate::table::Table;
 use cpog::graph::Graph;
@@ -11,7 +11,7 @@ use cpog::graph::Graph;
 impl Graph for Table {
     ghost meaning = { tabled };
 
-    ghost lawful = { first_of (Prim.search rules, Prim.grind (arith, Self.row.coded.inj)) };
+    ghost lawful = { Prim.search rules };
 
     fn events(&self) -> u8 {
         self.events

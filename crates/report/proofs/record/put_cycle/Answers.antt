@@ -12,7 +12,7 @@ returns g c =
       es,
       (
         c.in-Some.ensures,
-        c.in_ok-put_names.ensures ∙ ap (λ (fs : List ℕ). vec_items c.put.new.out ++ spelled names fs) c.as_slice.ensures.value
+        c.in_ok-put_names-in-Some.ensures ∙ ap (λ (fs : List ℕ). vec_items c.put.new.out ++ spelled names fs) c.as_slice.ensures.value
             ∙ ap (λ (bs : List ℕ). bs ++ spelled names es) key ∙ append_assoc start (codes " cycle") (spelled names es),
       ),
     )
