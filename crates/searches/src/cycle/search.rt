@@ -1,5 +1,5 @@
 // The search for a cycle: from an event that precedes itself, back along the arcs among such events.
-ghost use Rattle.std.specs.Prelude.{◌≡◌, ℕ, ◌+◌, ◌-◌, ◌<◌, ◌≤◌, Bool, true, false, Some, MatchOption};
+ghost use Rattle.std.specs.Prelude.{◌≡◌, ℕ, ◌<◌, ◌≤◌, Bool, true, false, Some, MatchOption};
 ghost use Rattle.sets.specs.Members.{member};
 ghost use Rattle.sets.specs.Rows.{related};
 ghost use Rattle.cpog.specs.Graphs.{counted};
