@@ -1,9 +1,9 @@
 #!/usr/bin/env python3
 """Brings the names of this repository's own definitions and lemmas to one spelling.
 
-Run once, at the top, right after the kit's own port script. In every .antt file, and in the clauses
-and ghost lines of every .rt file, it turns each name of DEFINED below: plain words are joined by `_`,
-and facts and types are in camel case. A dash stays only where it joins two names, as in `bit-zero`.
+Run once, at the top, right after the kit's own port script. In every .antt and .rt file, strings
+left alone, it turns each name of NEW and JOINED below: plain words are joined by `_`, and facts and types
+are in camel case. A dash stays only where it joins two names, as in `bit-zero`.
 Names that would have fallen together with another get a new word: see NEW.
 """
 
