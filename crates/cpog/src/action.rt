@@ -1,5 +1,5 @@
 // What an event does: an operation code, the two registers that it reads, and the one that it writes.
-ghost use Rattle.std.specs.Prelude.{◌≡◌, ℕ, ◌<◌, true, Decides};
+ghost use Rattle.std.specs.Prelude.{◌≡◌, ℕ, ◌<◌, ◌↔◌, IsTrue};
 ghost use Rattle.sets.specs.Counting.{every};
 ghost use Rattle.cpog.specs.Actions.{act, named, usable, Usable};
 
@@ -34,16 +34,16 @@ impl Action {
 pub fn action_of(actions: &[Action], event: u8) -> Action
     ensures { result ≡ act actions.now event }
 {
-    match actions.get(event as usize) {
-        Some(action) => *action,
-        None => Action::ZERO,
-    }
+    actions
+        .get(usize::from(event))
+        .copied()
+        .unwrap_or(Action::ZERO)
 }
 
 // Whether there are 32 actions or more, and those of the first `events` name only registers below 32.
 pub fn actions_fit(actions: &[Action], events: u8) -> bool
     ensures value { result ≡ usable events actions.now }
-    ensures law { Decides result (Usable events actions.now) }
+    ensures law { IsTrue result ↔ Usable events actions.now }
 {
     actions.len() >= 32 && all_named(actions, events)
 }
@@ -51,12 +51,7 @@ pub fn actions_fit(actions: &[Action], events: u8) -> bool
 // Whether the actions of the first `events` events name only registers below 32.
 fn all_named(actions: &[Action], events: u8) -> bool
     ensures value { result ≡ every (λ e. named (act actions.now e)) events }
-    ensures law { Decides result ((e : ℕ) → e < events → named (act actions.now e) ≡ true) }
+    ensures law { IsTrue result ↔ ((e : ℕ) → e < events → IsTrue (named (act actions.now e))) }
 {
-    for event in 0..events {
-        if !action_of(actions, event).names_registers() {
-            return false;
-        }
-    }
-    true
+    (0..events).all(|event| action_of(actions, event).names_registers())
 }

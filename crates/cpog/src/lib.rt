@@ -5,3 +5,4 @@ pub mod action;
 pub mod graph;
 pub mod projection;
 pub mod refusal;
+mod scene;

@@ -9,6 +9,7 @@ ghost use Rattle.cpog.specs.Projections.{seen, on_cycle, no_order, Placed};
 
 use crate::graph::Graph;
 use crate::refusal::Refusal;
+use crate::scene::Scene;
 use sets::events::Events;
 use sets::relation::Relation;
 
@@ -75,11 +76,11 @@ impl Projection {
         ensures value { seen result ≡ order_at (G.meaning graph.now) opcode }
         ensures law { Projects (G.meaning graph.now) opcode (seen result) }
     {
-        let here = present(graph, opcode);
-        let mut before = counted(graph, here, opcode);
+        let scene = Scene::new(graph, opcode);
+        let mut before = scene.arcs();
         before.close();
         Projection {
-            present: here,
+            present: scene.present,
             before,
         }
     }
@@ -103,48 +104,12 @@ pub fn present<G: Graph>(graph: &G, opcode: u16) -> Events
 fn present_below<G: Graph>(graph: &G, end: u8, opcode: u16) -> Events
     ensures { (G.meaning graph.now).events ≤ end → (e : ℕ) → member result e ≡ (G.meaning graph.now).has e opcode }
 {
-    let mut here = Events::none();
-    for event in 0..end {
-        here = here.union(Events::single(event, graph.has(event, opcode)));
-    }
-    here
-}
-
-// The events of `here` that have an arc to `to`.
-fn arcs_to<G: Graph>(graph: &G, here: Events, to: u8, opcode: u16) -> Events
-    ensures { (e : ℕ) → member result e ≡ (member here e && (G.meaning graph.now).arc e to opcode) }
-{
-    let mut row = Events::none();
-    for from in 0..graph.events() {
-        row = row.union(Events::single(from, leads(graph, here, from, to, opcode)));
-    }
-    row
-}
-
-// Whether `from` is in `here` and has an arc to `to`: an absent event's conditions are not asked.
-fn leads<G: Graph>(graph: &G, here: Events, from: u8, to: u8, opcode: u16) -> bool
-    ensures { result ≡ (member here from && (G.meaning graph.now).arc from to opcode) }
-{
-    here.has(from) && graph.arc(from, to, opcode)
+    Events::from_fn(|event| event < end && graph.has(event, opcode))
 }
 
 // The arcs that count: those that are there between present events.
 pub fn counted_arcs<G: Graph>(graph: &G, opcode: u16) -> Relation
     ensures { (e f : ℕ) → related result e f ≡ counted (G.meaning graph.now) opcode e f }
 {
-    counted(graph, present(graph, opcode), opcode)
-}
-
-// The counted arcs, given the present events.
-fn counted<G: Graph>(graph: &G, here: Events, opcode: u16) -> Relation
-    requires { (e : ℕ) → member here e ≡ (G.meaning graph.now).has e opcode }
-    ensures { (e f : ℕ) → related result e f ≡ counted (G.meaning graph.now) opcode e f }
-{
-    let mut arcs = Relation::none();
-    for to in 0..graph.events() {
-        if here.has(to) {
-            arcs.put(to, arcs_to(graph, here, to, opcode));
-        }
-    }
-    arcs
+    Scene::new(graph, opcode).arcs()
 }

@@ -1,8 +1,8 @@
 pub mod Bits
 pub mod Tallies
 pub mod Leasts
+pub mod Found
 pub mod Everys
-pub mod Gather
 pub mod Passing
 pub mod Warshall
 pub mod Room

@@ -1,5 +1,5 @@
 -- What a relation between events holds. Assumes nothing.
-use Rattle.std.specs.Prelude.{ℕ, Bool, cond, ◌&&◌, List, ◌==◌, nat_lt, slice_index_or}
+use Rattle.std.specs.Prelude.{ℕ, Bool, if◌then◌else◌, ◌&&◌, List, ◌==◌, nat_lt, slice_index_or}
 use Rattle.sets.specs.Members.{member}
 use Rattle.sets.specs.declared.events.Events.{Events}
 use Rattle.sets.specs.declared.relation.Relation.{Relation}
@@ -14,4 +14,4 @@ related r e f = nat_lt f 32 && member (row r.rows f) e
 
 -- r with s in the place of what is related to g
 abbrev pub replaced : (ℕ → ℕ → Bool) → ℕ → (ℕ → Bool) → ℕ → ℕ → Bool
-replaced r g s e f = cond (f == g && nat_lt f 32) (s e) (r e f)
+replaced r g s e f = if f == g && nat_lt f 32 then s e else r e f

@@ -1,7 +1,9 @@
 // A set of events, numbered 0 to 31: a word with a bit for each.
 ghost use Rattle.std.specs.Prelude.{◌≡◌, ℕ, ◌<◌, false, ◌&&◌, ◌||◌, ◌==◌, nat_lt};
-ghost use Rattle.sets.specs.Counting.{bit, least, tally, Least};
-ghost use Rattle.sets.specs.Members.{member, alone};
+ghost use Rattle.sets.specs.Counting.{least, tally, Least};
+ghost use Rattle.sets.specs.Members.{member};
+
+use crate::word::{alone, both, either, holds, ones};
 
 #[derive(Clone, Copy, PartialEq, Eq, Debug)]
 pub struct Events {
@@ -9,24 +11,33 @@ pub struct Events {
 }
 
 impl Events {
+    #[tactic(auto, using(crate::proofs::Bits::bit_of_zero))]
     pub fn none() -> Events
         ensures { (e : ℕ) → member result e ≡ false }
     {
-        Events::single(0, false)
+        Events { word: 0 }
     }
 
-    // The set of `event` alone if it is `there`, else the empty set. Numbers from 32 on are no events.
-    pub fn single(event: u8, there: bool) -> Events
-        ensures { (e : ℕ) → member result e ≡ alone event there e }
+    // The events that pass the test.
+    pub fn from_fn<F: Fn(u8) -> bool>(test: F) -> Events
+        requires { F.IsAlwaysCallable test }
+        ensures { (e : ℕ) → e < 32 → F.post test e (member result e) }
+    {
+        let mut found = Events::none();
+        for event in 0..32 {
+            if test(event) {
+                found.insert(event);
+            }
+        }
+        found
+    }
+
+    // Adds `event`. Numbers from 32 on are no events.
+    pub fn insert(&mut self, event: u8)
+        ensures { (e : ℕ) → member self.new e ≡ (member self.old e || (nat_lt e 32 && e == event)) }
     {
         if event < 32 {
-            Events {
-                word: single(event, there),
-            }
-        } else {
-            Events {
-                word: single(0, false),
-            }
+            self.word = either(self.word, alone(event));
         }
     }
 
@@ -34,7 +45,7 @@ impl Events {
     pub fn has(self, event: u8) -> bool
         ensures { result ≡ member self event }
     {
-        event < 32 && holds(self.word, event)
+        holds(self.word, event)
     }
 
     pub fn union(self, other: Events) -> Events
@@ -71,48 +82,6 @@ impl Events {
         ensures value { result ≡ least (member self) end }
         ensures least { Least (member self) end result }
     {
-        for event in 0..end {
-            if self.has(event) {
-                return Some(event);
-            }
-        }
-        None
+        (0..end).find(|event| self.has(*event))
     }
-}
-
-// The functions below are all that shifts and masks.
-
-// Whether bit `place` of `word` is set.
-fn holds(word: u32, place: u8) -> bool
-    requires { place < 32 }
-    ensures { result ≡ bit word place }
-{
-    (word >> place) & 1 == 1
-}
-
-// The word with bit `place` alone if it is `there`, else 0.
-fn single(place: u8, there: bool) -> u32
-    requires { place < 32 }
-    ensures { (k : ℕ) → bit result k ≡ (k == place && there) }
-{
-    u32::from(there) << place
-}
-
-fn either(a: u32, b: u32) -> u32
-    ensures { (k : ℕ) → bit result k ≡ (bit a k || bit b k) }
-{
-    a | b
-}
-
-fn both(a: u32, b: u32) -> u32
-    ensures { (k : ℕ) → bit result k ≡ (bit a k && bit b k) }
-{
-    a & b
-}
-
-// How many bits are set.
-fn ones(word: u32) -> u8
-    ensures { result ≡ tally (λ k. nat_lt k 32 && bit word k) 32 }
-{
-    word.count_ones() as u8
 }

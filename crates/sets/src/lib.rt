@@ -3,3 +3,4 @@
 
 pub mod events;
 pub mod relation;
+pub mod word;

@@ -61,11 +61,7 @@ impl Relation {
     fn selves_below(&self, end: u8) -> Events
         ensures { (e : ℕ) → member result e ≡ (nat_lt e end && related self.now e e) }
     {
-        let mut found = Events::none();
-        for event in 0..end {
-            found = found.union(Events::single(event, self.has(event, event)));
-        }
-        found
+        Events::from_fn(|event| event < end && self.has(event, event))
     }
 
     // Makes this relation that of its chains, of one or more steps.

@@ -30,7 +30,7 @@ impl Table {
         if events > 32 || variables > 8 {
             return Err(Refusal::TableTooLarge);
         }
-        let n = events as usize;
+        let n = usize::from(events);
         if bytes.len() != (1 + n + n * n) * Table::width(variables) {
             return Err(Refusal::TableLength);
         }

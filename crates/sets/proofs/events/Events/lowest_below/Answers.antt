@@ -1,15 +1,9 @@
-use Rattle.std.proofs.Common.{Some, None, rules}
-use Rattle.sets.specs.Counting.{Least}
+use Rattle.std.proofs.Common.{rules, tests}
 use Rattle.sets.specs.Members.{member}
-use Rattle.sets.proofs.Leasts.{least_value}
+use Rattle.sets.proofs.Found.{found_least}
 use Rattle.sets.proofs.events.Events.lowest_below.Goals as goal
-
-pub returns-then-has : goal.returns-then-has
-returns-then-has c =
-    let found : Least (member c.args.self) c.args.end (Some c.loop-event.event) = search rules in
-    record { value = least_value (member c.args.self) c.args.end _ found; least = found }
 
 pub returns : goal.returns
 returns c =
-    let empty : Least (member c.args.self) c.args.end None = search rules in
-    record { value = least_value (member c.args.self) c.args.end _ empty; least = empty }
+    let found = found_least (member c.args.self) c.args.end _ _ _ c.find.ensures.ran (λ x b q k. search (rules, tests)) in
+    record { value = found.0; least = found.1 }

@@ -1,4 +1,4 @@
-use Rattle.std.proofs.Common.{◌≡◌, ℕ, Bool, sym, refl, ap, ◌∙◌, arith}
+use Rattle.std.proofs.Common.{◌≡◌, ℕ, Bool, sym, refl, ◌∙◌, arith}
 use Rattle.std.proofs.lemmas.Bool.Decides.{nat_tests}
 use Rattle.sets.specs.Chains.{closed, through}
 use Rattle.sets.specs.Rows.{related}
@@ -19,12 +19,7 @@ loop-by-preserved c e f =
     through_same : (r s : ℕ → ℕ → Bool) → ((e f : ℕ) → r e f ≡ s e f) → (k e f : ℕ) → through r k e f ≡ through s k e f
     through_same r s same k e f = let a = same e f in let b = same e k in let d = same k f in cc
 
-pub returns : goal.returns
-returns c =
+pub returns-clause-chains : goal.returns-clause-chains
+returns-clause-chains c h =
     let r = related c.args.self.now in
-    let s = related c.loop-by.self in
-    let at : c.loop-by.by ≡ c.args.end = omega arith in
-    record {
-      value = λ e f. c.loop-by.invariant e f ∙ ap (λ (n : ℕ). closed r n e f) at;
-      chains = λ h. closure_same r (closed r c.loop-by.by) s (λ e f. sym (c.loop-by.invariant e f)) (closed_closure r c.loop-by.by (λ e f t. grind (arith, nat_tests)));
-    }
+    closure_same r (closed r c.loop-by.by) (related c.loop-by.self) (λ e f. sym (c.loop-by.invariant e f)) (closed_closure r c.loop-by.by (λ e f t. grind (arith, nat_tests)))

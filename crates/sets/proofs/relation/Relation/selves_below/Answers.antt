@@ -1,12 +1,8 @@
-use Rattle.std.proofs.Common.{arith}
+use Rattle.std.proofs.Common.{◌&&◌, nat_lt, arith, rules, tests}
 use Rattle.std.proofs.lemmas.Bool.Decides.{nat_tests}
-use Rattle.sets.specs.Members.{member}
 use Rattle.sets.specs.Rows.{related}
-use Rattle.sets.proofs.Gather.{gather_more}
+use Rattle.sets.proofs.Membership.{member_all}
 use Rattle.sets.proofs.relation.Relation.selves_below.Goals as goal
 
-pub loop-event-preserved : goal.loop-event-preserved
-loop-event-preserved c =
-    let i = c.loop-event.event in
-    gather_more (member c.loop-event.found) (member c.union-found.result) (λ e. related c.args.self.now e e) i c.has.result c.loop-event.invariant
-    (λ e. let u = c.union-found.ensures e in let s = c.single.ensures e in cc) c.has.ensures (λ t. grind (arith, nat_tests))
+pub returns : goal.returns
+returns c = member_all c.from_fn.result (λ e. nat_lt e c.args.end && related c.args.self.now e e) (λ e h. let f = c.from_fn.ensures e h in search (rules, tests)) (λ e t. grind (arith, nat_tests))
