@@ -4,10 +4,12 @@ use cpog::graph::Graph;
 use cpog::projection::Projection;
 use cpog::refusal::Refusal;
 use graphs::table::Table;
-use questions::check::{Verdict, check as check_graph};
-use questions::formed::{WellFormed, well_formed};
+use questions::check::{Unsound, check};
+use questions::formed::well_formed;
+use questions::outcome::Flaw;
 use searches::cycle::find_cycle;
 use std::alloc::{AllocError, Global};
+use std::array;
 use std::test::Fail;
 
 // The sample `demo`: three events a, b, c over one variable x; a and c are always there, b when x
@@ -29,10 +31,10 @@ fn table(heap: Global, events: u8, variables: u8, bytes: &[u8]) -> Result<Table,
 
 fn action(left: u8, right: u8, out: u8) -> Action {
     Action {
-        code: 0,
         left,
         right,
         out,
+        ..Action::ZERO
     }
 }
 
@@ -45,25 +47,34 @@ fn demo_actions() -> [Action; 32] {
     actions
 }
 
-// The number that a fill of `events` and `variables` with so many zeros is refused with, or 0.
-fn filled(heap: Global, events: u8, variables: u8, bytes: usize) -> Result<u8, AllocError> {
-    let mut table = Table::new(heap);
-    match table.fill(events, variables, vec![in heap; 0u8; bytes]?) {
-        Ok(()) => Ok(0),
-        Err(why) => Ok(why.number()),
-    }
+// The number that a fill of `events` and `variables` with so many zeros is refused with.
+fn refused(
+    heap: Global,
+    events: u8,
+    variables: u8,
+    bytes: usize,
+) -> Result<Option<u8>, AllocError> {
+    let zeros = vec![in heap; 0u8; bytes]?;
+    Ok(
+        Table::new(heap)
+            .fill(events, variables, zeros)
+            .err()
+            .map(Refusal::number),
+    )
 }
 
 #[test]
 fn tables_take_just_their_bytes(rt: HostRuntime) -> Result<(), Fail> {
     let heap = rt.alloc();
-    assert!(rt;
-        filled(heap, 3, 1, 13)? == 0 && filled(heap, 3, 1, 12)? == 9 && filled(heap, 3, 1, 14)? == 9
-    );
-    assert!(rt; filled(heap, 33, 0, 13)? == 8 && filled(heap, 3, 9, 13)? == 8);
-    assert!(rt;
-        filled(heap, 3, 3, 13)? == 0 && filled(heap, 3, 4, 26)? == 0 && filled(heap, 0, 8, 32)? == 0
-    );
+    for bytes in [12, 14] {
+        assert!(rt; matches!(refused(heap, 3, 1, bytes)?, Some(9)));
+    }
+    for (events, variables) in [(33, 0), (3, 9)] {
+        assert!(rt; matches!(refused(heap, events, variables, 13)?, Some(8)));
+    }
+    for (events, variables, bytes) in [(3, 1, 13), (3, 3, 13), (3, 4, 26), (0, 8, 32)] {
+        assert!(rt; refused(heap, events, variables, bytes)?.is_none());
+    }
     Ok(())
 }
 
@@ -102,23 +113,20 @@ fn an_arc_to_itself_is_a_cycle(rt: HostRuntime) -> Result<(), Fail> {
     let alone = table(rt.alloc(), 1, 0, &[1, 1, 1])?;
     let mut place = Projection::new();
     assert!(rt; matches!(place.project(&alone, 0), Err(Refusal::Cycle(0))));
-    match find_cycle(&alone, 0) {
-        Some(cycle) => {
-            assert!(rt; cycle.as_slice().len() == 1);
-            Ok(())
-        },
-        None => Err(Fail::new("no cycle of one event")),
-    }
+    assert!(rt; find_cycle(&alone, 0).is_some_and(|cycle| cycle.as_slice().len() == 1));
+    Ok(())
 }
 
-// What a check says of a graph over the sample's actions: the verdict, and how many events it shows.
-fn judged(table: &Table, actions: &[Action]) -> Option<(Verdict, usize)> {
-    let mut buffer = [0u8; 32];
-    match check_graph(table, actions, &mut buffer) {
-        Ok(checked) => Some((checked.verdict, checked.shown)),
-        Err(_) => None,
-    }
+// What a check says of a graph: the verdict, and how many events it shows.
+fn judged(table: &Table, actions: &[Action]) -> Option<(Result<(), Unsound>, usize)> {
+    let checked = check(table, actions, &mut [0u8; 32]).ok()?;
+    Some((checked.verdict, checked.shown))
 }
+
+const CYCLE_AT_0: Unsound = Unsound {
+    opcode: 0,
+    flaw: Flaw::Cycle,
+};
 
 #[test]
 fn verdicts_on_the_sample(rt: HostRuntime) -> Result<(), Fail> {
@@ -127,46 +135,42 @@ fn verdicts_on_the_sample(rt: HostRuntime) -> Result<(), Fail> {
     let demo = table(heap, 3, 1, &DEMO)?;
     let clash = table(heap, 3, 1, &WITHOUT_WAIT)?;
     let round = table(heap, 3, 1, &ROUND)?;
-    assert!(rt; matches!(judged(&demo, &actions), Some((Verdict::Sound, 0))));
-    assert!(rt; matches!(judged(&clash, &actions), Some((Verdict::Clash(1, 1, 2), 2))));
-    assert!(rt; matches!(judged(&round, &actions), Some((Verdict::Cycle(0), 2))));
-    assert!(rt; matches!(well_formed(&clash), WellFormed::Yes));
-    assert!(rt; matches!(well_formed(&round), WellFormed::No(0)));
+    let clash_at_1 = Unsound {
+        opcode: 1,
+        flaw: Flaw::Clash(1, 2),
+    };
+    assert!(rt; judged(&demo, &actions) == Some((Ok(()), 0)));
+    assert!(rt; judged(&clash, &actions) == Some((Err(clash_at_1), 2)));
+    assert!(rt; judged(&round, &actions) == Some((Err(CYCLE_AT_0), 2)));
+    assert!(rt; well_formed(&clash) == Ok(()));
+    assert!(rt; well_formed(&round) == Err(0));
     Ok(())
 }
 
-// Writes a byte, if the place is there.
-fn set(bytes: &mut [u8], place: usize, value: u8) {
-    if place < bytes.len() {
-        bytes[place] = value;
-    }
-}
-
-// The conditions of 32 events over no variable, each with an arc to the next.
-fn set_line(bytes: &mut [u8]) {
-    for k in 0..33usize {
-        set(bytes, k, 1);
-    }
-    for k in 0..31usize {
-        set(bytes, 34 + 33 * k, 1);
-    }
+// 32 events over no variable, which are all there, with these arcs.
+fn wired<F: Fn(usize, usize) -> bool>(heap: Global, arc: F) -> Result<Table, AllocError>
+    requires { F.IsAlwaysCallable arc }
+{
+    let conditions: [u8; 1057] = array::from_fn(|k| u8::from(
+        k < 33 || arc((k - 33) / 32, (k - 33) % 32),
+    ));
+    table(heap, 32, 0, &conditions)
 }
 
 #[test]
 fn lines_and_rings_of_32_events(rt: HostRuntime) -> Result<(), Fail> {
     let heap = rt.alloc();
     let same = [action(1, 1, 0); 32];
-    let mut bytes = [0u8; 1057];
-    set_line(&mut bytes);
-    let line = table(heap, 32, 0, &bytes)?;
-    assert!(rt; matches!(judged(&line, &same), Some((Verdict::Sound, 0))));
-    set(&mut bytes, 33 + 32 * 31, 1);
-    let ring = table(heap, 32, 0, &bytes)?;
-    assert!(rt; matches!(judged(&ring, &same), Some((Verdict::Cycle(0), 32))));
-    set(&mut bytes, 34 + 33 * 30, 0);
-    let broken = table(heap, 32, 0, &bytes)?;
+    let line = wired(heap, |from, to| from.wrapping_add(1) == to)?;
+    assert!(rt; judged(&line, &same) == Some((Ok(()), 0)));
+    let ring = wired(heap, |from, to| from.wrapping_add(1) % 32 == to)?;
+    assert!(rt; judged(&ring, &same) == Some((Err(CYCLE_AT_0), 32)));
+    let broken = wired(
+        heap,
+        |from, to| from != 30 && from.wrapping_add(1) % 32 == to,
+    )?;
     assert!(rt;
-        matches!(judged(&broken, &same), Some((Verdict::Sound, 0))),
+        judged(&broken, &same) == Some((Ok(()), 0)),
         "31 before 0, and so on"
     );
     Ok(())
@@ -182,11 +186,6 @@ fn a_check_that_is_refused_or_has_nothing_to_do(rt: HostRuntime) -> Result<(), F
     assert!(rt; judged(&demo, &actions).is_some(), "entry 3 is no event's");
     actions[1] = action(0, 32, 3);
     assert!(rt; judged(&demo, &actions).is_none());
-    assert!(rt;
-        matches!(
-            judged(&Table::new(heap), &actions),
-            Some((Verdict::Sound, 0))
-        )
-    );
+    assert!(rt; judged(&Table::new(heap), &actions) == Some((Ok(()), 0)));
     Ok(())
 }

@@ -2,6 +2,9 @@
 ghost use Rattle.std.specs.Prelude.{◌≡◌};
 ghost use Rattle.cpog.specs.Refusals.{number_of};
 
+use std::error::Error;
+use std::fmt;
+
 // In the order of their numbers; docs/REFUSALS.md says what holds after each.
 #[derive(Clone, Copy, PartialEq, Eq, Debug)]
 pub enum Refusal {
@@ -68,3 +71,16 @@ impl Refusal {
         }
     }
 }
+
+impl fmt::Display for Refusal {
+    ghost use Rattle.std.specs.Prelude.{Some, ◌++◌, codes, decimal};
+    ghost use Rattle.cpog.specs.Refusals.{number_of};
+
+    ghost output = { λ refusal. Some (codes "refusal " ++ decimal (number_of refusal)) };
+
+    fn fmt<W: fmt::Write>(&self, f: &mut fmt::Formatter<W>) -> fmt::Result {
+        write!(f, "refusal {}", self.number())
+    }
+}
+
+impl Error for Refusal {}

@@ -17,7 +17,7 @@ const DEMO: [u8; 13] = [3, 3, 2, 3, 0, 0, 3, 0, 0, 3, 0, 0, 0];
 const DEMO_WITHOUT_WAIT: [u8; 13] = [3, 3, 2, 3, 0, 0, 3, 0, 0, 0, 0, 0, 0];
 
 #[derive(Clone, Copy)]
-struct SampleNames {}
+struct SampleNames;
 
 impl Names for SampleNames {
     ghost naming = { λ _. record {
@@ -61,27 +61,19 @@ fn sample_actions() -> [Action; 32] {
     actions
 }
 
-fn print_record(rt: &HostRuntime, conditions: &[u8]) -> anyhow::Result<()> {
+fn print_record(rt: &(impl AllocGlobal + Print), conditions: &[u8]) -> anyhow::Result<()> {
     let heap = rt.alloc();
     let mut table = Table::new(heap);
-    if table
+    table
         .fill(3, 1, Vec::from_slice(heap, conditions)?)
-        .is_err()
-    {
-        return Err(anyhow!("the sample's table does not fit"));
-    }
-    match record(heap, &table, &SampleNames {}, &sample_actions()) {
-        Ok(text) => rt.stdout().write_all(text.as_slice())?,
-        Err(_) => return Err(anyhow!("no record of the sample")),
-    }
+        .map_err(|_| anyhow!("the sample's table does not fit"))?;
+    let written = record(heap, &table, &SampleNames, &sample_actions());
+    let text = written.map_err(|_| anyhow!("no record of the sample"))?;
+    rt.write_all(&text)?;
     Ok(())
 }
 
-fn run(rt: &HostRuntime) -> anyhow::Result<()> {
-    print_record(rt, &DEMO)?;
-    print_record(rt, &DEMO_WITHOUT_WAIT)
-}
-
 fn main(rt: HostRuntime) -> anyhow::Result<()> {
-    run(&rt)
+    print_record(&rt, &DEMO)?;
+    print_record(&rt, &DEMO_WITHOUT_WAIT)
 }

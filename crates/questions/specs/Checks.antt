@@ -1,71 +1,54 @@
 -- What a check of a whole graph says and shows. Assumes nothing.
-use Rattle.std.specs.Prelude.{◌≡◌, ℕ, ◌<◌, Bool, true, false, not, List, [], ◌∷◌, ◌++◌, length, drop, Some, None, Ok, Err, Option, Result, nat_lt}
+use Rattle.std.specs.Prelude.{◌≡◌, ℕ, ◌<◌, true, not, List, [], ◌∷◌, ◌++◌, length, drop, Some, None, Ok, Err, Option, Result, nat_lt}
 use Rattle.std.specs.Bool.{then_some}
-use Rattle.sets.specs.Chains.{Acyclic}
-use Rattle.sets.specs.Counting.{least, tally}
+use Rattle.sets.specs.Counting.{tally}
 use Rattle.cpog.specs.Actions.{usable}
-use Rattle.cpog.specs.Graphs.{Conditions, counted, order_at}
+use Rattle.cpog.specs.Graphs.{Conditions, counted}
 use Rattle.cpog.specs.Refusals.{first_of}
 use Rattle.cpog.specs.declared.action.Action.{Action}
 use Rattle.cpog.specs.declared.refusal.Refusal.{Refusal}
 use Rattle.cpog.specs.declared.refusal.Refusal.TheVariants.{BadActions, ShortBuffer}
-use Rattle.searches.specs.Clashes.{clashing, First}
 use Rattle.searches.specs.Cycles.{IsCycle}
-use Rattle.questions.specs.Outcomes.{outcome_at}
+use Rattle.questions.specs.Opcodes.{first_err}
+use Rattle.questions.specs.Outcomes.{outcome_at, HasFlaw, HasOneResult}
 use Rattle.questions.specs.declared.check.Checked.{Checked}
-use Rattle.questions.specs.declared.check.Verdict.{Verdict}
-use Rattle.questions.specs.declared.check.Verdict.TheVariants.{Sound, Cycle, Clash}
-use Rattle.questions.specs.declared.outcome.Outcome.{Outcome}
-use Rattle.questions.specs.declared.outcome.Outcome.TheVariants.{OneResult, Cycle as Cyclic, Clash as Clashes}
+use Rattle.questions.specs.declared.check.Unsound.{Unsound}
+use Rattle.questions.specs.declared.outcome.Flaw.{Flaw}
+use Rattle.questions.specs.declared.outcome.Flaw.TheVariants.{Cycle, Clash}
 
 -- why a check is not made, of actions and a buffer of this length
 abbrev pub unasked : Conditions → List Action → ℕ → Option Refusal
 unasked g actions len = first_of (then_some (not (usable g.events actions)) BadActions ∷ then_some (nat_lt len 32) ShortBuffer ∷ [])
 
--- an outcome that is a cycle or a clash
-abbrev pub flawed : Option Outcome → Bool
-flawed None = false
-flawed (Some OneResult) = false
-flawed (Some Cyclic) = true
-flawed (Some (Clashes e f)) = true
+-- the verdict that the outcome of an opcode makes, if it is the first with a flaw
+abbrev pub judged : ℕ → Option (Result (Unit {0}) Flaw) → Result (Unit {0}) Unsound
+judged o None = Ok tt
+judged o (Some (Ok done)) = Ok tt
+judged o (Some (Err flaw)) = Err (record { opcode = o; flaw = flaw })
 
--- no opcode is above 255
-abbrev pub least_flawed : Conditions → List Action → Option ℕ
-least_flawed g actions = least (λ o. flawed (outcome_at g actions o)) 256
+abbrev pub judged_at : Conditions → List Action → ℕ → Result (Unit {0}) Unsound
+judged_at g actions o = judged o (outcome_at g actions o)
 
--- the verdict, if the first flaw is this outcome of opcode o
-abbrev pub flaw : ℕ → Option Outcome → Verdict
-flaw o None = Sound
-flaw o (Some OneResult) = Sound
-flaw o (Some Cyclic) = Cycle o
-flaw o (Some (Clashes e f)) = Clash o e f
-
-abbrev pub flaw_at : Conditions → List Action → Option ℕ → Verdict
-flaw_at g actions None = Sound
-flaw_at g actions (Some o) = flaw o (outcome_at g actions o)
-
-abbrev pub verdict : Conditions → List Action → Verdict
-verdict g actions = flaw_at g actions (least_flawed g actions)
-
--- an opcode with neither a cycle nor a clash
-abbrev pub HasOneResult : Conditions → List Action → ℕ → Type 0
-HasOneResult g actions o = Acyclic (counted g o) × ((e f : ℕ) → clashing (order_at g o) actions e f ≡ false)
+abbrev pub verdict : Conditions → List Action → Result (Unit {0}) Unsound
+verdict g actions = first_err (judged_at g actions)
 
 -- every allowed opcode below o has one result
 abbrev pub SoundBelow : Conditions → List Action → ℕ → Type 0
 SoundBelow g actions o = (q : ℕ) → q < o → g.allow q ≡ true → HasOneResult g actions q
 
 -- For each verdict, what holds where it is given. No two of these hold at once.
-abbrev pub Verdicts : Conditions → List Action → Verdict → Type 0
-Verdicts g actions Sound = (o : ℕ) → g.allow o ≡ true → HasOneResult g actions o
-Verdicts g actions (Cycle o) = (g.allow o ≡ true) × (Acyclic (counted g o) → ⊥) × SoundBelow g actions o
-Verdicts g actions (Clash o e f) = (g.allow o ≡ true) × Acyclic (counted g o) × First (order_at g o) actions e f × SoundBelow g actions o
+abbrev pub Verdicts : Conditions → List Action → Result (Unit {0}) Unsound → Type 0
+Verdicts g actions (Ok done) = (o : ℕ) → g.allow o ≡ true → HasOneResult g actions o
+Verdicts g actions (Err u) = (g.allow u.opcode ≡ true) × HasFlaw g actions u.opcode u.flaw × SoundBelow g actions u.opcode
 
--- what is shown at the start of a buffer, and of how many events; the rest of it stays
-abbrev pub Shown : Conditions → List ℕ → List ℕ → ℕ → Verdict → Type 0
-Shown g before after n Sound = (n ≡ 0) × (after ≡ before)
-Shown g before after n (Cycle o) = (es : List ℕ) × (IsCycle (counted g o) es × (n ≡ length es) × (after ≡ es ++ drop (length es) before))
-Shown g before after n (Clash o e f) = (n ≡ 2) × (after ≡ (e ∷ f ∷ []) ++ drop 2 before)
+-- what is shown of a flaw at the start of a buffer, and of how many events; the rest of it stays
+abbrev pub Exhibits : Conditions → ℕ → Flaw → List ℕ → List ℕ → ℕ → Type 0
+Exhibits g o Cycle before after n = (es : List ℕ) × (IsCycle (counted g o) es × (n ≡ length es) × (after ≡ es ++ drop (length es) before))
+Exhibits g o (Clash e f) before after n = (n ≡ 2) × (after ≡ (e ∷ f ∷ []) ++ drop 2 before)
+
+abbrev pub Shown : Conditions → List ℕ → List ℕ → ℕ → Result (Unit {0}) Unsound → Type 0
+Shown g before after n (Ok done) = (n ≡ 0) × (after ≡ before)
+Shown g before after n (Err u) = Exhibits g u.opcode u.flaw before after n
 
 pub record Tells (g : Conditions) (actions : List Action) (before after : List ℕ) (c : Checked) : Type 0 where
   pub counts : c.allowed ≡ tally g.allow 256

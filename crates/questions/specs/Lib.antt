@@ -1,3 +1,4 @@
+pub mod Opcodes
 pub mod Outcomes
 pub mod Formed
 pub mod Checks

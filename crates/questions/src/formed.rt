@@ -1,44 +1,26 @@
 // Whether a graph is well-formed.
 ghost use Rattle.std.specs.Prelude.{◌≡◌};
-ghost use Rattle.questions.specs.Formed.{cyclic, least_cyclic, no_unless, formed, Formed};
+ghost use Rattle.questions.specs.Formed.{formed_at, formed, Formed};
 
+use crate::OPCODES;
 use cpog::graph::Graph;
 use cpog::projection::Projection;
+use cpog::refusal::Refusal;
 
-#[derive(Clone, Copy, PartialEq, Eq, Debug)]
-pub enum WellFormed {
-    Yes,
-    // The least allowed opcode that has a cycle.
-    No(u16),
-}
-
-// Yes exactly if no allowed opcode has a cycle.
-pub fn well_formed<G: Graph>(graph: &G) -> WellFormed
+// Ok exactly if no allowed opcode has a cycle, and else the least that has one.
+pub fn well_formed<G: Graph>(graph: &G) -> Result<(), u16>
     ensures value { result ≡ formed (G.meaning graph.now) }
     ensures law { Formed (G.meaning graph.now) result }
 {
-    match least_cyclic(graph) {
-        Some(opcode) => WellFormed::No(opcode),
-        None => WellFormed::Yes,
-    }
+    (0..OPCODES).try_for_each(|opcode| formed_at(graph, opcode))
 }
 
-fn least_cyclic<G: Graph>(graph: &G) -> Option<u16>
-    ensures value { result ≡ least_cyclic (G.meaning graph.now) }
-    ensures law { Formed (G.meaning graph.now) (no_unless result) }
+// An error if the opcode is allowed and has a cycle.
+fn formed_at<G: Graph>(graph: &G, opcode: u16) -> Result<(), u16>
+    ensures { result ≡ formed_at (G.meaning graph.now) opcode }
 {
-    for opcode in 0..256u16 {
-        if has_cycle(graph, opcode) {
-            return Some(opcode);
-        }
+    match Projection::new().project(graph, opcode) {
+        Err(Refusal::Cycle(_)) => Err(opcode),
+        _ => Ok(()),
     }
-    None
-}
-
-// Whether `opcode` is allowed and has a cycle.
-fn has_cycle<G: Graph>(graph: &G, opcode: u16) -> bool
-    ensures { result ≡ cyclic (G.meaning graph.now) opcode }
-{
-    let mut place = Projection::new();
-    graph.allow(opcode) && place.project(graph, opcode).is_err()
 }

@@ -4,3 +4,6 @@
 pub mod check;
 pub mod formed;
 pub mod outcome;
+
+// Every opcode is below this.
+const OPCODES: u16 = 256;

@@ -3,4 +3,5 @@
 
 pub mod failure;
 pub mod names;
+mod page;
 pub mod record;

@@ -1,22 +1,18 @@
 // The record of a procedure: its heading, a line for each allowed opcode, and the verdict.
-ghost use Rattle.std.specs.Prelude.{◌≡◌, ℕ, List, ◌∷◌, ◌++◌, IfOk, Some, codes, decimal, MatchResult, OnOk};
-ghost use Rattle.sets.specs.Chains.{Acyclic};
+ghost use Rattle.std.specs.Prelude.{◌≡◌, ◌++◌, OnOk, MatchResult};
 ghost use Rattle.sets.specs.Counting.{tally};
-ghost use Rattle.cpog.specs.Graphs.{counted};
-ghost use Rattle.searches.specs.Cycles.{IsCycle};
-ghost use Rattle.questions.specs.Checks.{verdict};
 ghost use Rattle.questions.specs.Outcomes.{outcome_at};
-ghost use Rattle.questions.specs.declared.outcome.Outcome.TheVariants.{Cycle};
 ghost use Rattle.report.specs.Naming.{spelled};
-ghost use Rattle.report.specs.Records.{heading, line, opening, ending, Words, LineOf, Lines, Whole, Failed};
+ghost use Rattle.report.specs.Records.{heading, opening, ending, line_with, LineOf, Lines, Adds, Whole, Failed};
 
 use crate::failure::Failure;
 use crate::names::Names;
+use crate::page::Page;
 use cpog::action::Action;
 use cpog::graph::Graph;
 use cpog::projection::present;
-use questions::check::{Checked, Verdict, check};
-use questions::outcome::{Outcome, outcome_at};
+use questions::check::{Unsound, check};
+use questions::outcome::{Flaw, outcome_at};
 use searches::cycle::find_cycle;
 use std::alloc::{AllocError, Global};
 
@@ -27,230 +23,131 @@ pub fn record<G: Graph, N: Names>(
     names: &N,
     actions: &[Action],
 ) -> Result<Vec<u8>, Failure>
-    ensures { MatchResult result (λ out. Whole (N.naming names.now) (G.meaning graph.now) actions.now out.items) (λ why. Failed (G.meaning graph.now) actions.now why) }
+    ensures { MatchResult result
+        (λ text. Whole (N.naming names.now) (G.meaning graph.now) actions.now text.items)
+        (λ why. Failed (G.meaning graph.now) actions.now why) }
 {
     let mut buffer = [0u8; 32];
-    match check(graph, actions, &mut buffer) {
-        Ok(checked) => match written(heap, graph, names, actions, checked) {
-            Ok(out) => Ok(out),
-            Err(_) => Err(Failure::NoMemory),
-        },
-        Err(why) => Err(Failure::Unchecked(why)),
+    let checked = check(graph, actions, &mut buffer)?;
+    let subject = Subject {
+        graph,
+        names,
+        actions,
+    };
+    let mut page = Page::new(heap);
+    subject.put_heading(&mut page, checked.allowed)?;
+    subject.put_opcodes(&mut page)?;
+    put_verdict(&mut page, checked.verdict)?;
+    Ok(page.into_text())
+}
+
+// What a record is about.
+#[derive(Drop)]
+struct Subject<'a, G, N> {
+    graph: &'a G,
+    names: &'a N,
+    actions: &'a [Action],
+}
+
+impl<G: Graph, N: Names> Subject<'_, G, N> {
+    fn put_heading(&self, page: &mut Page, allowed: u16) -> Result<(), AllocError>
+        ensures { OnOk result (page.new ≡ page.old
+            ++ heading (N.naming self.now.names.now) (G.meaning self.now.graph.now).events allowed) }
+    {
+        page.put_line(b"proc=", self.names.title())?;
+        writeln!(page, "events={}", self.graph.events())?;
+        page.put_line(b"vars=", self.names.letters())?;
+        writeln!(page, "allowed={allowed}")
+    }
+
+    // A line for each allowed opcode, in rising order.
+    fn put_opcodes(&self, page: &mut Page) -> Result<(), AllocError>
+        ensures { OnOk result (Adds
+            (Lines (N.naming self.now.names.now) (G.meaning self.now.graph.now) self.now.actions.now 256)
+            page.old page.new) }
+    {
+        for opcode in 0..256u16 {
+            self.put_opcode(page, opcode)?;
+        }
+        Ok(())
+    }
+
+    // The line of an opcode, if it is allowed.
+    fn put_opcode(&self, page: &mut Page, opcode: u16) -> Result<(), AllocError>
+        ensures { OnOk result (Adds
+            (LineOf (N.naming self.now.names.now) (G.meaning self.now.graph.now) opcode
+            (outcome_at (G.meaning self.now.graph.now) self.now.actions.now opcode))
+            page.old page.new) }
+    {
+        match outcome_at(self.graph, self.actions, opcode) {
+            None => Ok(()),
+            Some(Ok(())) => self.put_outcome(page, opcode, b" one result", &[]),
+            Some(Err(Flaw::Cycle)) => match find_cycle(self.graph, opcode) {
+                Some(cycle) => self.put_outcome(page, opcode, b" cycle", cycle.as_slice()),
+                None => unreachable!(),
+            },
+            Some(Err(Flaw::Clash(lower, higher))) => {
+                self.put_outcome(page, opcode, b" clash", &[lower, higher])
+            }
+        }
+    }
+
+    // The line of an opcode: how many events are present, and its outcome in words and events.
+    fn put_outcome(
+        &self,
+        page: &mut Page,
+        opcode: u16,
+        words: &[u8],
+        events: &[u8],
+    ) -> Result<(), AllocError>
+        ensures { OnOk result (page.new ≡ page.old
+            ++ line_with (G.meaning self.now.graph.now) opcode
+            (words.now ++ spelled (N.naming self.now.names.now) events.now)) }
+    {
+        self.put_opening(page, opcode)?;
+        page.put(words)?;
+        self.put_names(page, events)?;
+        page.put(b"\n")
+    }
+
+    // How the line of an opcode begins.
+    fn put_opening(&self, page: &mut Page, opcode: u16) -> Result<(), AllocError>
+        ensures { OnOk result (page.new ≡ page.old
+            ++ opening opcode (tally (λ e. (G.meaning self.now.graph.now).has e opcode) 32)) }
+    {
+        let count = present(self.graph, opcode).count();
+        write!(page, "opcode={opcode} present={count}")
+    }
+
+    // A blank and the name of each event.
+    fn put_names(&self, page: &mut Page, events: &[u8]) -> Result<(), AllocError>
+        ensures { OnOk result (page.new ≡ page.old
+            ++ spelled (N.naming self.now.names.now) events.now) }
+    {
+        for event in events {
+            page.put(b" ")?;
+            page.put(self.names.name(*event))?;
+        }
+        Ok(())
     }
 }
 
-fn written<G: Graph, N: Names>(
-    heap: Global,
-    graph: &G,
-    names: &N,
-    actions: &[Action],
-    checked: Checked,
-) -> Result<Vec<u8>, AllocError>
-    requires counts { checked.allowed ≡ tally (G.meaning graph.now).allow 256 }
-    requires judges { checked.verdict ≡ verdict (G.meaning graph.now) actions.now }
-    ensures { IfOk result (λ out. Whole (N.naming names.now) (G.meaning graph.now) actions.now out.items) }
-{
-    let mut out = Vec::new(heap);
-    put_heading(heap, &mut out, names, graph.events(), checked.allowed)?;
-    put_opcodes(heap, &mut out, graph, names, actions)?;
-    put_verdict(heap, &mut out, checked.verdict)?;
-    Ok(out)
-}
-
-fn put_heading<N: Names>(
-    heap: Global,
-    out: &mut Vec<u8>,
-    names: &N,
-    events: u8,
-    allowed: u16,
-) -> Result<(), AllocError>
-    ensures { OnOk result (out.new.items ≡ out.old.items ++ heading (N.naming names.now) events allowed) }
-{
-    put_line(out, b"proc=", names.title())?;
-    put_number_line(heap, out, b"events=", u16::from(events))?;
-    put_line(out, b"vars=", names.letters())?;
-    put_number_line(heap, out, b"allowed=", allowed)?;
-    Ok(())
-}
-
-// A line for each allowed opcode, in rising order.
-fn put_opcodes<G: Graph, N: Names>(
-    heap: Global,
-    out: &mut Vec<u8>,
-    graph: &G,
-    names: &N,
-    actions: &[Action],
-) -> Result<(), AllocError>
-    ensures { OnOk result ((lines : List ℕ) × (Lines (N.naming names.now) (G.meaning graph.now) actions.now 256 lines × (out.new.items ≡ out.old.items ++ lines))) }
-{
-    for opcode in 0..256u16 {
-        put_if_allowed(heap, out, graph, names, actions, opcode)?;
-    }
-    Ok(())
-}
-
-fn put_if_allowed<G: Graph, N: Names>(
-    heap: Global,
-    out: &mut Vec<u8>,
-    graph: &G,
-    names: &N,
-    actions: &[Action],
-    opcode: u16,
-) -> Result<(), AllocError>
-    ensures { OnOk result ((text : List ℕ) × (LineOf (N.naming names.now) (G.meaning graph.now) opcode (outcome_at (G.meaning graph.now) actions.now opcode) text × (out.new.items ≡ out.old.items ++ text))) }
-{
-    match outcome_at(graph, actions, opcode) {
-        Some(outcome) => {
-            put_opcode(heap, out, graph, names, opcode, outcome)?;
-            Ok(())
-        }
-        None => Ok(()),
-    }
-}
-
-fn put_opcode<G: Graph, N: Names>(
-    heap: Global,
-    out: &mut Vec<u8>,
-    graph: &G,
-    names: &N,
-    opcode: u16,
-    outcome: Outcome,
-) -> Result<(), AllocError>
-    requires { outcome ≡ Cycle → Acyclic (counted (G.meaning graph.now) opcode) → ⊥ }
-    ensures { OnOk result ((text : List ℕ) × (LineOf (N.naming names.now) (G.meaning graph.now) opcode (Some outcome) text × (out.new.items ≡ out.old.items ++ text))) }
-{
-    put_opening(heap, out, opcode, present(graph, opcode).count())?;
-    put_outcome(out, graph, names, opcode, outcome)?;
-    put(out, b"\n")?;
-    Ok(())
-}
-
-fn put_opening(heap: Global, out: &mut Vec<u8>, opcode: u16, count: u8) -> Result<(), AllocError>
-    ensures { OnOk result (out.new.items ≡ out.old.items ++ opening opcode count) }
-{
-    put(out, b"opcode=")?;
-    put_number(heap, out, opcode)?;
-    put(out, b" present=")?;
-    put_number(heap, out, u16::from(count))?;
-    Ok(())
-}
-
-fn put_outcome<G: Graph, N: Names>(
-    out: &mut Vec<u8>,
-    graph: &G,
-    names: &N,
-    opcode: u16,
-    outcome: Outcome,
-) -> Result<(), AllocError>
-    requires { outcome ≡ Cycle → Acyclic (counted (G.meaning graph.now) opcode) → ⊥ }
-    ensures { OnOk result ((text : List ℕ) × (Words (N.naming names.now) (G.meaning graph.now) opcode outcome text × (out.new.items ≡ out.old.items ++ text))) }
-{
-    match outcome {
-        Outcome::OneResult => {
-            put(out, b" one result")?;
-            Ok(())
-        }
-        Outcome::Cycle => {
-            put_cycle(out, graph, names, opcode)?;
-            Ok(())
-        }
-        Outcome::Clash(lower, higher) => {
-            put(out, b" clash")?;
-            put_names(out, names, &[lower, higher])?;
-            Ok(())
-        }
-    }
-}
-
-fn put_cycle<G: Graph, N: Names>(
-    out: &mut Vec<u8>,
-    graph: &G,
-    names: &N,
-    opcode: u16,
-) -> Result<(), AllocError>
-    requires { Acyclic (counted (G.meaning graph.now) opcode) → ⊥ }
-    ensures { OnOk result ((es : List ℕ) × (IsCycle (counted (G.meaning graph.now) opcode) es × (out.new.items ≡ out.old.items ++ (codes " cycle" ++ spelled (N.naming names.now) es)))) }
-{
-    put(out, b" cycle")?;
-    match find_cycle(graph, opcode) {
-        Some(cycle) => {
-            put_names(out, names, cycle.as_slice())?;
-            Ok(())
-        }
-        None => unreachable(),
-    }
-}
-
-fn put_verdict(heap: Global, out: &mut Vec<u8>, verdict: Verdict) -> Result<(), AllocError>
-    ensures { OnOk result (out.new.items ≡ out.old.items ++ ending verdict) }
+fn put_verdict(page: &mut Page, verdict: Result<(), Unsound>) -> Result<(), AllocError>
+    ensures { OnOk result (page.new ≡ page.old ++ ending verdict) }
 {
     match verdict {
-        Verdict::Sound => {
-            put_line(out, b"check=sound", b"")?;
-            Ok(())
-        }
-        Verdict::Cycle(opcode) => {
-            put_number_line(heap, out, b"check=cycle ", opcode)?;
-            Ok(())
-        }
-        Verdict::Clash(opcode, _, _) => {
-            put_number_line(heap, out, b"check=clash ", opcode)?;
-            Ok(())
-        }
+        Ok(()) => writeln!(page, "check=sound"),
+        Err(
+            Unsound {
+                opcode,
+                flaw: Flaw::Cycle,
+            },
+        ) => writeln!(page, "check=cycle {opcode}"),
+        Err(
+            Unsound {
+                opcode,
+                flaw: Flaw::Clash(_, _),
+            },
+        ) => writeln!(page, "check=clash {opcode}"),
     }
-}
-
-// A blank and the name of each event.
-fn put_names<N: Names>(out: &mut Vec<u8>, names: &N, events: &[u8]) -> Result<(), AllocError>
-    ensures { OnOk result (out.new.items ≡ out.old.items ++ spelled (N.naming names.now) events.now) }
-{
-    for event in events {
-        put_name(out, names, *event)?;
-    }
-    Ok(())
-}
-
-fn put_name<N: Names>(out: &mut Vec<u8>, names: &N, event: u8) -> Result<(), AllocError>
-    ensures { OnOk result (out.new.items ≡ out.old.items ++ 32 ∷ (N.naming names.now).name event) }
-{
-    put(out, b" ")?;
-    put(out, names.name(event))?;
-    Ok(())
-}
-
-fn put_number_line(
-    heap: Global,
-    out: &mut Vec<u8>,
-    key: &[u8],
-    number: u16,
-) -> Result<(), AllocError>
-    ensures { OnOk result (out.new.items ≡ out.old.items ++ line key.now (decimal number)) }
-{
-    let digits = number.to_string(heap)?;
-    put_line(out, key, digits.as_bytes())?;
-    Ok(())
-}
-
-fn put_line(out: &mut Vec<u8>, key: &[u8], value: &[u8]) -> Result<(), AllocError>
-    ensures { OnOk result (out.new.items ≡ out.old.items ++ line key.now value.now) }
-{
-    put(out, key)?;
-    put(out, value)?;
-    put(out, b"\n")?;
-    Ok(())
-}
-
-fn put_number(heap: Global, out: &mut Vec<u8>, number: u16) -> Result<(), AllocError>
-    ensures { OnOk result (out.new.items ≡ out.old.items ++ decimal number) }
-{
-    let digits = number.to_string(heap)?;
-    put(out, digits.as_bytes())?;
-    Ok(())
-}
-
-fn put(out: &mut Vec<u8>, text: &[u8]) -> Result<(), AllocError>
-    ensures { OnOk result (out.new.items ≡ out.old.items ++ text.now) }
-{
-    out.extend_from_slice(text)?;
-    Ok(())
 }

@@ -1,2 +1,3 @@
 pub mod Clashing
+pub mod Finding
 pub mod Walking

@@ -19,6 +19,6 @@ impl Cycle {
         ensures value { result.now ≡ take self.now.len self.now.events }
         ensures few { length result.now ≤ 32 }
     {
-        &self.events[0..self.len]
+        &self.events[..self.len]
     }
 }

@@ -1,12 +1,13 @@
 // The search for a cycle: from an event that precedes itself, back along the arcs among such events.
-ghost use Rattle.std.specs.Prelude.{◌≡◌, ℕ, ◌<◌, ◌≤◌, Bool, true, false, Some, MatchOption};
+ghost use Rattle.std.specs.Prelude.{◌≡◌, ℕ, ◌<◌, ◌≤◌, Bool, true, false, reverse, length, MatchOption};
 ghost use Rattle.sets.specs.Members.{member};
 ghost use Rattle.sets.specs.Rows.{related};
 ghost use Rattle.cpog.specs.Graphs.{counted};
-ghost use Rattle.searches.specs.Cycles.{Found, nth};
-ghost use Rattle.searches.specs.Walks.{Fed, Turn, Turned};
+ghost use Rattle.searches.specs.Cycles.{IsCycle, Found, nth, round};
+ghost use Rattle.searches.specs.Walks.{Fed};
 
 use crate::cycle::Cycle;
+use arrayvec::ArrayVec;
 use cpog::graph::Graph;
 use cpog::projection::counted_arcs;
 use sets::events::Events;
@@ -27,69 +28,69 @@ fn cycle_of(arcs: &Relation) -> Option<Cycle>
     let mut chains = *arcs;
     chains.close();
     let around = chains.selves();
-    match around.lowest() {
-        Some(start) => Some(walk_round(arcs, around, start)),
-        None => None,
-    }
+    let start = around.lowest()?;
+    let walker = Walker {
+        arcs,
+        around,
+        start,
+    };
+    Some(walker.cycle())
 }
 
-fn walk_round(arcs: &Relation, around: Events, start: u8) -> Cycle
-    requires fed { Fed (related arcs.now) (member around) }
-    requires inside { member around start ≡ true }
-    ensures { Found (related arcs.now) (Some result) }
-{
-    let mut walk = [0u8; 32];
-    let (from, last) = walk_back(arcs, around, start, &mut walk);
-    turned(&walk, from, last)
+// Walks against the arcs from `start`, among events that each have an arc from one of them.
+#[derive(Clone, Copy)]
+struct Walker<'a> {
+    arcs: &'a Relation,
+    around: Events,
+    start: u8,
+    ghost inside: { member around start ≡ true },
+    ghost fed: { Fed (related arcs.now) (member around) },
 }
 
-// Walks from `start` against the arcs, inside `around`, until an event of the walk has an arc to
-// its last; says at which place that event stands, and at which the last.
-fn walk_back(arcs: &Relation, around: Events, start: u8, walk: &mut [u8; 32]) -> (usize, usize)
-    requires fed { Fed (related arcs.now) (member around) }
-    requires inside { member around start ≡ true }
-    ensures { Turn (related arcs.now) walk.new result.0 result.1 }
-{
-    walk[0] = start;
-    let mut len = 1;
-    loop {
-        let row = arcs.row(walk[len - 1]);
-        if let Some(from) = place_in(row, walk, len) {
-            return (from, len - 1);
-        }
-        match row.common(around).lowest() {
-            Some(event) => {
-                walk[len] = event;
-                len += 1;
+impl Walker<'_> {
+    // Walks until an event of the walk has an arc to the last: from there on it is a cycle, backwards.
+    fn cycle(&self) -> Cycle
+        ensures { IsCycle (related self.now.arcs.now) (round result) }
+    {
+        let mut walk: ArrayVec<u8, 32> = ArrayVec::new();
+        let mut event = self.start;
+        loop {
+            walk.push(event);
+            if let Some(from) = self.turn(&walk, event) {
+                return backwards(&walk[from..]);
             }
-            None => unreachable(),
+            event = self.before(event);
         }
+    }
+
+    // The first place of the walk whose event has an arc to `event`.
+    fn turn(&self, walk: &[u8], event: u8) -> Option<usize>
+        ensures { MatchOption result
+            ((k : ℕ) → k < length walk.now → related self.now.arcs.now (nth walk.now k) event ≡ false)
+            (λ k. (k < length walk.now) × (related self.now.arcs.now (nth walk.now k) event ≡ true)) }
+    {
+        walk.iter()
+            .position(|earlier| self.arcs.has(*earlier, event))
+    }
+
+    // The lowest of the events walked among that has an arc to `event`, which is one of them.
+    fn before(&self, event: u8) -> u8
+        requires { member self.now.around event ≡ true }
+        ensures inside { member self.now.around result ≡ true }
+        ensures step { related self.now.arcs.now result event ≡ true }
+    {
+        self.arcs.row(event).common(self.around).lowest().unwrap()
     }
 }
 
-// The first place of the walk whose event is in `row`.
-fn place_in(row: Events, walk: &[u8; 32], len: usize) -> Option<usize>
-    requires { len ≤ 32 }
-    ensures { MatchOption result ((k : ℕ) → k < len → member row (nth walk.now k) ≡ false) (λ k. (k < len) × (member row (nth walk.now k) ≡ true)) }
-{
-    for place in 0..len {
-        if row.has(walk[place]) {
-            return Some(place);
-        }
-    }
-    None
-}
-
-// The walk from place `last` down to `from`.
-fn turned(walk: &[u8; 32], from: usize, last: usize) -> Cycle
-    requires rising { from ≤ last }
-    requires few { last < 32 }
-    ensures { Turned walk.now from last result.events result.len }
+// The cycle that shows these events, the last first.
+fn backwards(walk: &[u8]) -> Cycle
+    requires { length walk.now ≤ 32 }
+    ensures { round result ≡ reverse walk.now }
 {
     let mut events = [0u8; 32];
-    let len = last - from + 1;
-    for place in 0..len {
-        events[place] = walk[last - place];
-    }
+    let len = walk.len();
+    events[..len].copy_from_slice(walk);
+    events[..len].reverse();
     Cycle { events, len }
 }

@@ -1,16 +1,10 @@
-use Rattle.std.proofs.Common.{◌≡◌, sym, ap, ◌∙◌, arith}
-use mir.Val.{bool_byte}
-use Rattle.sets.proofs.Tallies.{tally_none, tally_more, byte_le}
+use Rattle.std.proofs.Common.{◌∙◌, refl, rules}
+use Rattle.std.proofs.lemmas.Iterator.{YieldsList-from_range}
+use Rattle.std.proofs.lemmas.Iterator.Consumers.{YieldsList-at, YieldsList-from_filter, count_from_yields_List}
+use Rattle.questions.proofs.Counts.{filter-tally}
 use Rattle.questions.proofs.check.count_allowed.Goals as goal
 
-pub overflow_add-allowed : goal.overflow_add-allowed
-overflow_add-allowed g c = omega (arith, byte_le c.allow.result)
-
-pub loop-opcode-init : goal.loop-opcode-init
-loop-opcode-init g c = (omega arith, sym (tally_none (g.G.Graph.meaning c.args.graph.now).allow))
-
-pub loop-opcode-preserved : goal.loop-opcode-preserved
-loop-opcode-preserved g c =
+pub returns : goal.returns
+returns g c =
     let allow = (g.G.Graph.meaning c.args.graph.now).allow in
-    let here : c.from-allowed.result ≡ bool_byte (allow c.loop-opcode.opcode) = c.from-allowed.ensures ∙ ap bool_byte c.allow.ensures in
-    (omega (arith, byte_le c.allow.result), omega (arith, here, tally_more allow c.loop-opcode.opcode))
+    count_from_yields_List c.filter.result _ c.count.ensures.ran (YieldsList-from_filter _ allow (YieldsList-at c.filter.ensures.source (YieldsList-from_range 0 256 256 refl refl)) c.filter.ensures.closure (λ x r q k. search rules)) ∙ filter-tally allow 256
