@@ -1,5 +1,5 @@
 -- The actions of the events. Assumes nothing.
-use Rattle.std.specs.Prelude.{◌≡◌, ℕ, ◌<◌, ◌≤◌, Bool, true, ◌&&◌, List, length, nat_le, nat_lt, slice_index_or}
+use Rattle.std.specs.Prelude.{IsTrue, ℕ, ◌<◌, ◌≤◌, Bool, ◌&&◌, List, length, nat_le, nat_lt, slice_index_or}
 use Rattle.sets.specs.Counting.{every}
 use Rattle.cpog.specs.declared.action.Action.{Action}
 
@@ -16,4 +16,4 @@ abbrev pub usable : ℕ → List Action → Bool
 usable n actions = nat_le 32 (length actions) && every (λ e. named (act actions e)) n
 
 abbrev pub Usable : ℕ → List Action → Type 0
-Usable n actions = (32 ≤ length actions) × ((e : ℕ) → e < n → named (act actions e) ≡ true)
+Usable n actions = (32 ≤ length actions) × ((e : ℕ) → e < n → IsTrue (named (act actions e)))

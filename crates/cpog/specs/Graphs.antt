@@ -2,7 +2,7 @@
 --     Conditions   what a graph answers            counted    an arc that counts
 --     Lawful       its limits                      precedes   a chain of counted arcs, as a test
 --     Order        present events and "precedes"   order_at   the order of a graph at an opcode
-use Rattle.std.specs.Prelude.{◌≡◌, ℕ, ◌^◌, ◌<◌, ◌≤◌, Bool, true, ◌&&◌}
+use Rattle.std.specs.Prelude.{IsTrue, ◌≡◌, ℕ, ◌^◌, ◌<◌, ◌≤◌, Bool, ◌&&◌}
 use Rattle.sets.specs.Chains.{Chain, closed}
 
 -- how many events and variables, which opcodes are allowed, which events and arcs an opcode has
@@ -17,9 +17,9 @@ pub record Conditions : Type 0 where
 pub record Lawful (g : Conditions) : Type 0 where
   pub few_events : g.events ≤ 32
   pub few_variables : g.variables ≤ 8
-  pub allow_inside : (o : ℕ) → g.allow o ≡ true → o < 2 ^ g.variables
-  pub has_inside : (e o : ℕ) → g.has e o ≡ true → (e < g.events) × (o < 2 ^ g.variables)
-  pub arc_inside : (e f o : ℕ) → g.arc e f o ≡ true → (e < g.events) × (f < g.events) × (o < 2 ^ g.variables)
+  pub allow_inside : (o : ℕ) → IsTrue (g.allow o) → o < 2 ^ g.variables
+  pub has_inside : (e o : ℕ) → IsTrue (g.has e o) → (e < g.events) × (o < 2 ^ g.variables)
+  pub arc_inside : (e f o : ℕ) → IsTrue (g.arc e f o) → (e < g.events) × (f < g.events) × (o < 2 ^ g.variables)
 
 -- an arc counts where it is there and both its events are present
 abbrev pub counted : Conditions → ℕ → ℕ → ℕ → Bool
@@ -40,5 +40,5 @@ order_at g o = record { present = λ e. g.has e o; precedes = precedes g o }
 -- p is the order of g at o: the events that are present there, and exactly the chains of counted arcs
 pub record Projects (g : Conditions) (o : ℕ) (p : Order) : Type 0 where
   pub presence : (e : ℕ) → p.present e ≡ g.has e o
-  pub to_chain : (e f : ℕ) → p.precedes e f ≡ true → Chain (counted g o) e f
-  pub from_chain : (e f : ℕ) → Chain (counted g o) e f → p.precedes e f ≡ true
+  pub to_chain : (e f : ℕ) → IsTrue (p.precedes e f) → Chain (counted g o) e f
+  pub from_chain : (e f : ℕ) → Chain (counted g o) e f → IsTrue (p.precedes e f)

@@ -1,5 +1,5 @@
 -- What a projection holds, and what is answered to the call that fills it. Assumes nothing.
-use Rattle.std.specs.Prelude.{◌≡◌, ℕ, not, [], ◌∷◌, Ok, Err, Option, Result}
+use Rattle.std.specs.Prelude.{ℕ, not, [], ◌∷◌, Option}
 use Rattle.std.specs.Option.{option_map}
 use Rattle.std.specs.Bool.{then_some}
 use Rattle.sets.specs.Counting.{least}
@@ -22,8 +22,3 @@ on_cycle p = least (λ e. p.precedes e e) 32
 -- why a graph has no order at an opcode: it is not allowed, or events precede themselves
 abbrev pub no_order : Conditions → ℕ → Option Refusal
 no_order g o = first_of (then_some (not (g.allow o)) NotAllowed ∷ option_map Cycle (on_cycle (order_at g o)) ∷ [])
-
--- an accepted call leaves the order of the graph in the place, and a refused one leaves the place as it was
-abbrev pub Placed : Conditions → ℕ → Projection → Projection → Result (Unit {0}) Refusal → Type 0
-Placed g o before after (Ok done) = seen after ≡ order_at g o
-Placed g o before after (Err why) = after ≡ before

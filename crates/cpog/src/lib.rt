@@ -5,4 +5,3 @@ pub mod action;
 pub mod graph;
 pub mod projection;
 pub mod refusal;
-mod scene;

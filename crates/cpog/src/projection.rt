@@ -1,15 +1,14 @@
 // What a graph has at an opcode: its present events, its counted arcs, and their order.
-ghost use Rattle.std.specs.Prelude.{◌≡◌, ℕ, ◌≤◌, true, false, ◌&&◌};
+ghost use Rattle.std.specs.Prelude.{◌≡◌, ℕ, ◌≤◌, false, ◌&&◌, IsTrue, OnOk, OnErr};
 ghost use Rattle.std.specs.Result.{result_err};
 ghost use Rattle.sets.specs.Counting.{tally};
 ghost use Rattle.sets.specs.Members.{member};
 ghost use Rattle.sets.specs.Rows.{related};
 ghost use Rattle.cpog.specs.Graphs.{counted, order_at, Projects};
-ghost use Rattle.cpog.specs.Projections.{seen, on_cycle, no_order, Placed};
+ghost use Rattle.cpog.specs.Projections.{seen, on_cycle, no_order};
 
 use crate::graph::Graph;
 use crate::refusal::Refusal;
-use crate::scene::Scene;
 use sets::events::Events;
 use sets::relation::Relation;
 
@@ -55,8 +54,9 @@ impl Projection {
     // precede themselves; the place is then as it was.
     pub fn project<G: Graph>(&mut self, graph: &G, opcode: u16) -> Result<(), Refusal>
         ensures answer { result_err result ≡ no_order (G.meaning graph.now) opcode }
-        ensures after { Placed (G.meaning graph.now) opcode self.old self.new result }
-        ensures law { (G.meaning graph.now).allow opcode ≡ true → Projects (G.meaning graph.now) opcode (order_at (G.meaning graph.now) opcode) }
+        ensures ok { OnOk result (seen self.new ≡ order_at (G.meaning graph.now) opcode) }
+        ensures err { OnErr result (self.new ≡ self.old) }
+        ensures law { IsTrue ((G.meaning graph.now).allow opcode) → Projects (G.meaning graph.now) opcode (order_at (G.meaning graph.now) opcode) }
     {
         if !graph.allow(opcode) {
             return Err(Refusal::NotAllowed);
@@ -112,4 +112,53 @@ pub fn counted_arcs<G: Graph>(graph: &G, opcode: u16) -> Relation
     ensures { (e f : ℕ) → related result e f ≡ counted (G.meaning graph.now) opcode e f }
 {
     Scene::new(graph, opcode).arcs()
+}
+
+// A graph at an opcode, with the events that are there.
+#[derive(Drop)]
+struct Scene<'a, G: Graph> {
+    graph: &'a G,
+    opcode: u16,
+    present: Events,
+    ghost present_there: { (e : ℕ) → member present e ≡ (G.meaning graph.now).has e opcode },
+}
+
+impl<'a, G: Graph> Scene<'a, G> {
+    fn new(graph: &'a G, opcode: u16) -> Scene<'a, G>
+        ensures graph { result.graph.now ≡ graph.now }
+        ensures opcode { result.opcode ≡ opcode }
+    {
+        Scene {
+            graph,
+            opcode,
+            present: present(graph, opcode),
+        }
+    }
+
+    // The arcs that count.
+    fn arcs(&self) -> Relation
+        ensures { (e f : ℕ) → related result e f ≡ counted (G.meaning self.now.graph.now) self.now.opcode e f }
+    {
+        let mut arcs = Relation::none();
+        for to in 0..self.graph.events() {
+            if self.present.has(to) {
+                arcs.put(to, self.arcs_to(to));
+            }
+        }
+        arcs
+    }
+
+    // The present events that have an arc to `to`.
+    fn arcs_to(&self, to: u8) -> Events
+        ensures { (e : ℕ) → member result e ≡ (member self.now.present e && (G.meaning self.now.graph.now).arc e to self.now.opcode) }
+    {
+        Events::from_fn(|from| self.leads(from, to))
+    }
+
+    // Whether `from` is present and has an arc to `to`: an absent event's conditions are not asked.
+    fn leads(&self, from: u8, to: u8) -> bool
+        ensures { result ≡ (member self.now.present from && (G.meaning self.now.graph.now).arc from to self.now.opcode) }
+    {
+        self.present.has(from) && self.graph.arc(from, to, self.opcode)
+    }
 }

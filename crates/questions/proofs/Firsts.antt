@@ -1,16 +1,15 @@
 -- What `try_for_each` over the opcodes gives. Assumes nothing.
-use Rattle.std.proofs.Common.{◌≡◌, ℕ, ◌+◌, ◌<◌, ◌≤◌, true, is_err, Some, None, Ok, Err, Option, Result, sym, refl, ap, subst, inl, inr, ◌∙◌, arith}
+use Rattle.std.proofs.Common.{◌≡◌, ℕ, ◌+◌, ◌<◌, true, is_err, Some, None, Ok, Err, Option, Result, sym, ap, subst, inl, inr, ◌∙◌, arith}
 use Rattle.std.proofs.iter.Yields.{nat_range_steps}
-use Rattle.std.proofs.iter.runs.Sources.{range_runs}
 use Rattle.std.proofs.lemmas.Option.{MatchOption-at_some}
 use Rattle.std.proofs.lemmas.Bool.{cases_Bool, MatchBool-at_true, MatchBool-at_false}
 use Rattle.std.proofs.lemmas.Result.{err_from_is_err_and}
-use Rattle.std.specs.declared.ops.Range.{Range}
 use Rattle.std.specs.Fn.{Called}
-use Rattle.std.specs.Iterator.Runs.{Run, SomeRun, IsTryForEachRun, CallKeepsClosure, AllItems, AllItemsBelow}
-use Rattle.std.specs.Option.{option_map, option_map_or, IsSomeAnd}
+use Rattle.std.specs.Iterator.Runs.{SomeRun, IsTryForEachRun, CallKeepsClosure, AllItems, AllItemsBelow}
+use Rattle.std.specs.Option.{option_map_or, IsSomeAnd}
 use Rattle.std.specs.Result.{result_from_control_flow, IsErr, IsErrAnd}
 use denote.Param.Members.{Mut}
+use Rattle.sets.proofs.Ranges.{counts, number_at}
 use Rattle.sets.specs.Counting.{Least}
 use Rattle.sets.proofs.Leasts.{least_value}
 use Rattle.questions.specs.Opcodes.{first_err}
@@ -26,27 +25,6 @@ firsts_value at (Ok done) all =
 firsts_value at (Err e) first =
     let found : Least (λ q. is_err (at q)) 256 (Some first.0) = (first.1.0, ap is_err first.1.1, λ q h. ap is_err (first.1.2 q h)) in
     sym first.1.1 ∙ ap (λ q. option_map_or at q (Ok tt)) (least_value (λ q. is_err (at q)) 256 (Some first.0) found)
-
-same_option : {A : Type 0} (q : Option A) → option_map (λ y. y) q ≡ q
-same_option None = refl
-same_option (Some x) = refl
-
--- a run over the opcodes has each at its place
-module _ (p : Run nat_range_steps) (from : p.from ≡ record { start = 0; end = 256 }) where
-  start : p.from.start ≡ 0
-  start = ap (λ (s : Range ℕ). s.start) from
-
-  stop : p.from.end ≡ 256
-  stop = ap (λ (s : Range ℕ). s.end) from
-
-  few : p.len ≤ 256
-  few = omega (arith, (range_runs p p.seen).0, start, stop)
-
-  full : p.whole ≡ true → p.len ≡ 256
-  full w = omega (arith, (range_runs p p.seen).1 w, start, stop)
-
-  place : (k : ℕ) → k < p.len → p.at k ≡ Some k
-  place k l = let same : p.from.start + k ≡ k = omega (arith, start) in sym (same_option (p.at k)) ∙ (range_runs p p.seen).3 k l ∙ ap Some same
 
 -- `at` is what each call answers
 pub firsts_of : {E F : Type 0} {g : Mut F (ℕ × Unit {0}) (Result (Unit {0}) E)} {f : F} {r : Result (Unit {0}) E} (at : ℕ → Result (Unit {0}) E)
@@ -69,12 +47,12 @@ firsts_of {E} {F} {g} {f} {r} at (p, from, says) calls =
     answer s o h = sym (calls o h.0 f h.1).1 ∙ h.2
 
     there : (s : Result (Unit {0}) E) (o : ℕ) → o < p.len → IsSomeAnd (p.at o) (Gives s) → at o ≡ s
-    there s o l h = answer s o (subst (λ (q : Option ℕ). IsSomeAnd q (Gives s)) (place p from o l) h)
+    there s o l h = answer s o (subst (λ (q : Option ℕ). IsSomeAnd q (Gives s)) (number_at 256 p from o l) h)
 
     whole : p.whole ≡ true → AllItems p (Gives (Ok tt)) → (o : ℕ) → o < 256 → at o ≡ Ok tt
-    whole w h o l = answer (Ok tt) o (MatchOption-at_some _ (Gives (Ok tt)) o (place p from o (omega (arith, full p from w))) (h o))
+    whole w h o l = answer (Ok tt) o (MatchOption-at_some _ (Gives (Ok tt)) o (number_at 256 p from o (omega (arith, (counts 256 p from).1 w))) (h o))
 
     cut : (e : E) (i : ℕ) → IsErr r × IsErrAnd r (λ x. x ≡ e) → p.len ≡ i + 1 → IsSomeAnd (p.at i) (Gives (Err e)) × AllItemsBelow p i (Gives (Ok tt)) → Firsts at r
     cut e i err len h =
         let y = err_from_is_err_and r err.1 in
-        subst (Firsts at) (sym (y.1 ∙ ap Err y.2)) (i, (omega (arith, few p from), there (Err e) i (omega arith) h.0, λ q b. there (Ok tt) q (omega arith) (h.1 q b)))
+        subst (Firsts at) (sym (y.1 ∙ ap Err y.2)) (i, (omega (arith, (counts 256 p from).0), there (Err e) i (omega arith) h.0, λ q b. there (Ok tt) q (omega arith) (h.1 q b)))

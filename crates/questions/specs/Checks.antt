@@ -1,5 +1,5 @@
 -- What a check of a whole graph says and shows. Assumes nothing.
-use Rattle.std.specs.Prelude.{◌≡◌, ℕ, ◌<◌, true, not, List, [], ◌∷◌, ◌++◌, length, drop, Some, None, Ok, Err, Option, Result, nat_lt}
+use Rattle.std.specs.Prelude.{IsTrue, ◌≡◌, ℕ, ◌<◌, not, List, [], ◌∷◌, ◌++◌, length, drop, Some, None, Ok, Err, Option, Result, nat_lt}
 use Rattle.std.specs.Bool.{then_some}
 use Rattle.sets.specs.Counting.{tally}
 use Rattle.cpog.specs.Actions.{usable}
@@ -34,12 +34,12 @@ verdict g actions = first_err (judged_at g actions)
 
 -- every allowed opcode below o has one result
 abbrev pub SoundBelow : Conditions → List Action → ℕ → Type 0
-SoundBelow g actions o = (q : ℕ) → q < o → g.allow q ≡ true → HasOneResult g actions q
+SoundBelow g actions o = (q : ℕ) → q < o → IsTrue (g.allow q) → HasOneResult g actions q
 
 -- For each verdict, what holds where it is given. No two of these hold at once.
 abbrev pub Verdicts : Conditions → List Action → Result (Unit {0}) Unsound → Type 0
-Verdicts g actions (Ok done) = (o : ℕ) → g.allow o ≡ true → HasOneResult g actions o
-Verdicts g actions (Err u) = (g.allow u.opcode ≡ true) × HasFlaw g actions u.opcode u.flaw × SoundBelow g actions u.opcode
+Verdicts g actions (Ok done) = (o : ℕ) → IsTrue (g.allow o) → HasOneResult g actions o
+Verdicts g actions (Err u) = IsTrue (g.allow u.opcode) × HasFlaw g actions u.opcode u.flaw × SoundBelow g actions u.opcode
 
 -- what is shown of a flaw at the start of a buffer, and of how many events; the rest of it stays
 abbrev pub Exhibits : Conditions → ℕ → Flaw → List ℕ → List ℕ → ℕ → Type 0
@@ -50,13 +50,9 @@ abbrev pub Shown : Conditions → List ℕ → List ℕ → ℕ → Result (Unit
 Shown g before after n (Ok done) = (n ≡ 0) × (after ≡ before)
 Shown g before after n (Err u) = Exhibits g u.opcode u.flaw before after n
 
+-- what a check that is made answers, and what it leaves in the buffer
 pub record Tells (g : Conditions) (actions : List Action) (before after : List ℕ) (c : Checked) : Type 0 where
   pub counts : c.allowed ≡ tally g.allow 256
   pub judges : c.verdict ≡ verdict g actions
   pub means : Verdicts g actions c.verdict
   pub shows : Shown g before after c.shown c.verdict
-
--- a refused check leaves the buffer as it was
-abbrev pub Told : Conditions → List Action → List ℕ → List ℕ → Result Checked Refusal → Type 0
-Told g actions before after (Ok c) = Tells g actions before after c
-Told g actions before after (Err why) = after ≡ before

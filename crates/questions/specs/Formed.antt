@@ -1,5 +1,5 @@
 -- When a graph is well-formed. Assumes nothing.
-use Rattle.std.specs.Prelude.{◌≡◌, ℕ, ◌<◌, Bool, true, ◌&&◌, is_some, Ok, Err, Result, if◌then◌else◌}
+use Rattle.std.specs.Prelude.{IsTrue, ℕ, ◌<◌, Bool, ◌&&◌, is_some, Ok, Err, Result, if◌then◌else◌}
 use Rattle.sets.specs.Chains.{Acyclic}
 use Rattle.cpog.specs.Graphs.{Conditions, counted, order_at}
 use Rattle.cpog.specs.Projections.{on_cycle}
@@ -17,5 +17,5 @@ formed g = first_err (formed_at g)
 
 -- For each answer, what holds where it is given. No two of these hold at once.
 abbrev pub Formed : Conditions → Result (Unit {0}) ℕ → Type 0
-Formed g (Ok done) = (o : ℕ) → g.allow o ≡ true → Acyclic (counted g o)
-Formed g (Err o) = (g.allow o ≡ true) × (Acyclic (counted g o) → ⊥) × ((q : ℕ) → q < o → g.allow q ≡ true → Acyclic (counted g q))
+Formed g (Ok done) = (o : ℕ) → IsTrue (g.allow o) → Acyclic (counted g o)
+Formed g (Err o) = IsTrue (g.allow o) × (Acyclic (counted g o) → ⊥) × ((q : ℕ) → q < o → IsTrue (g.allow q) → Acyclic (counted g q))

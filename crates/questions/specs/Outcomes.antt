@@ -1,5 +1,5 @@
 -- What can come of a run at one opcode. Assumes nothing.
-use Rattle.std.specs.Prelude.{◌≡◌, ℕ, true, false, List, Some, None, Ok, Err, Option, Result}
+use Rattle.std.specs.Prelude.{IsTrue, ◌≡◌, ℕ, false, List, Some, None, Ok, Err, Option, Result}
 use Rattle.std.specs.Bool.{then_some}
 use Rattle.sets.specs.Chains.{Acyclic}
 use Rattle.cpog.specs.Graphs.{Conditions, counted, order_at}
@@ -30,5 +30,5 @@ HasFlaw g actions o (Clash e f) = Acyclic (counted g o) × First (order_at g o) 
 -- For each answer, what holds where it is given. No two of these hold at once.
 abbrev pub Comes : Conditions → List Action → ℕ → Option (Result (Unit {0}) Flaw) → Type 0
 Comes g actions o None = g.allow o ≡ false
-Comes g actions o (Some (Ok done)) = (g.allow o ≡ true) × HasOneResult g actions o
-Comes g actions o (Some (Err flaw)) = (g.allow o ≡ true) × HasFlaw g actions o flaw
+Comes g actions o (Some (Ok done)) = IsTrue (g.allow o) × HasOneResult g actions o
+Comes g actions o (Some (Err flaw)) = IsTrue (g.allow o) × HasFlaw g actions o flaw

@@ -1,8 +1,8 @@
 // What can come of a procedure, over all its opcodes.
-ghost use Rattle.std.specs.Prelude.{◌≡◌, ◌≤◌, ◌++◌, length, drop};
+ghost use Rattle.std.specs.Prelude.{◌≡◌, ◌≤◌, ◌++◌, length, drop, IfOk, OnErr};
 ghost use Rattle.std.specs.Result.{result_err};
 ghost use Rattle.sets.specs.Counting.{tally};
-ghost use Rattle.questions.specs.Checks.{unasked, judged_at, verdict, Verdicts, Shown, Told};
+ghost use Rattle.questions.specs.Checks.{unasked, judged_at, verdict, Verdicts, Shown, Tells};
 
 use crate::OPCODES;
 use crate::outcome::{Flaw, outcome_at};
@@ -34,7 +34,8 @@ pub struct Checked {
 // the buffer as it was.
 pub fn check<G: Graph>(graph: &G, actions: &[Action], buffer: &mut [u8]) -> Result<Checked, Refusal>
     ensures answer { result_err result ≡ unasked (G.meaning graph.now) actions.now (length buffer.old) }
-    ensures after { Told (G.meaning graph.now) actions.now buffer.old buffer.new result }
+    ensures ok { IfOk result (Tells (G.meaning graph.now) actions.now buffer.old buffer.new) }
+    ensures err { OnErr result (buffer.new ≡ buffer.old) }
 {
     if !actions_fit(actions, graph.events()) {
         return Err(Refusal::BadActions);
@@ -67,10 +68,10 @@ fn judge<G: Graph>(graph: &G, actions: &[Action], buffer: &mut [u8]) -> (Result<
     let shown = match verdict {
         Ok(()) => 0,
         Err(unsound) => match unsound.flaw {
-            Flaw::Cycle => match find_cycle(graph, unsound.opcode) {
-                Some(cycle) => write_start(buffer, cycle.as_slice()),
-                None => unreachable(),
-            },
+            Flaw::Cycle => {
+                let cycle = find_cycle(graph, unsound.opcode).unwrap();
+                write_start(buffer, cycle.as_slice())
+            }
             Flaw::Clash(lower, higher) => write_start(buffer, &[lower, higher]),
         },
     };
@@ -102,6 +103,6 @@ fn write_start(buffer: &mut [u8], events: &[u8]) -> usize
     ensures after { buffer.new ≡ events.now ++ drop (length events.now) buffer.old }
 {
     let count = events.len();
-    buffer[0..count].copy_from_slice(events);
+    buffer[..count].copy_from_slice(events);
     count
 }

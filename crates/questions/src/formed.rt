@@ -12,15 +12,15 @@ pub fn well_formed<G: Graph>(graph: &G) -> Result<(), u16>
     ensures value { result ≡ formed (G.meaning graph.now) }
     ensures law { Formed (G.meaning graph.now) result }
 {
-    (0..OPCODES).try_for_each(|opcode| formed_at(graph, opcode))
-}
-
-// An error if the opcode is allowed and has a cycle.
-fn formed_at<G: Graph>(graph: &G, opcode: u16) -> Result<(), u16>
-    ensures { result ≡ formed_at (G.meaning graph.now) opcode }
-{
-    match Projection::new().project(graph, opcode) {
-        Err(Refusal::Cycle(_)) => Err(opcode),
-        _ => Ok(()),
-    }
+    (0..OPCODES).try_for_each(
+        |opcode| -> Result<(), u16>
+            ensures { result ≡ formed_at (G.meaning graph.entry.now) opcode }
+        {
+            let mut place = Projection::new();
+            match place.project(graph, opcode) {
+                Err(Refusal::Cycle(_)) => Err(opcode),
+                _ => Ok(()),
+            }
+        },
+    )
 }

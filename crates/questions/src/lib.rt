@@ -6,4 +6,4 @@ pub mod formed;
 pub mod outcome;
 
 // Every opcode is below this.
-const OPCODES: u16 = 256;
+pub const OPCODES: u16 = 256;

@@ -3,5 +3,4 @@
 
 pub mod failure;
 pub mod names;
-mod page;
 pub mod record;

@@ -1,20 +1,22 @@
 // The record of a procedure: its heading, a line for each allowed opcode, and the verdict.
-ghost use Rattle.std.specs.Prelude.{◌≡◌, ◌++◌, OnOk, MatchResult};
+ghost use Rattle.std.specs.Prelude.{◌≡◌, [], ◌++◌, IfSome, OnOk, MatchResult};
 ghost use Rattle.sets.specs.Counting.{tally};
 ghost use Rattle.questions.specs.Outcomes.{outcome_at};
 ghost use Rattle.report.specs.Naming.{spelled};
-ghost use Rattle.report.specs.Records.{heading, opening, ending, line_with, LineOf, Lines, Adds, Whole, Failed};
+ghost use Rattle.report.specs.Records.{line, heading, opening, ending, line_with, LineOf, Lines, Adds, Whole, Failed};
 
 use crate::failure::Failure;
 use crate::names::Names;
-use crate::page::Page;
 use cpog::action::Action;
 use cpog::graph::Graph;
 use cpog::projection::present;
+use questions::OPCODES;
 use questions::check::{Unsound, check};
 use questions::outcome::{Flaw, outcome_at};
 use searches::cycle::find_cycle;
 use std::alloc::{AllocError, Global};
+use std::fmt::Display;
+use std::marker::Model;
 
 // Fails if the check of the graph and its actions is refused, or for want of memory.
 pub fn record<G: Graph, N: Names>(
@@ -66,7 +68,7 @@ impl<G: Graph, N: Names> Subject<'_, G, N> {
             (Lines (N.naming self.now.names.now) (G.meaning self.now.graph.now) self.now.actions.now 256)
             page.old page.new) }
     {
-        for opcode in 0..256u16 {
+        for opcode in 0..OPCODES {
             self.put_opcode(page, opcode)?;
         }
         Ok(())
@@ -82,10 +84,10 @@ impl<G: Graph, N: Names> Subject<'_, G, N> {
         match outcome_at(self.graph, self.actions, opcode) {
             None => Ok(()),
             Some(Ok(())) => self.put_outcome(page, opcode, b" one result", &[]),
-            Some(Err(Flaw::Cycle)) => match find_cycle(self.graph, opcode) {
-                Some(cycle) => self.put_outcome(page, opcode, b" cycle", cycle.as_slice()),
-                None => unreachable!(),
-            },
+            Some(Err(Flaw::Cycle)) => {
+                let cycle = find_cycle(self.graph, opcode).unwrap();
+                self.put_outcome(page, opcode, b" cycle", cycle.as_slice())
+            }
             Some(Err(Flaw::Clash(lower, higher))) => {
                 self.put_outcome(page, opcode, b" clash", &[lower, higher])
             }
@@ -137,17 +139,61 @@ fn put_verdict(page: &mut Page, verdict: Result<(), Unsound>) -> Result<(), Allo
 {
     match verdict {
         Ok(()) => writeln!(page, "check=sound"),
-        Err(
-            Unsound {
-                opcode,
-                flaw: Flaw::Cycle,
-            },
-        ) => writeln!(page, "check=cycle {opcode}"),
-        Err(
-            Unsound {
-                opcode,
-                flaw: Flaw::Clash(_, _),
-            },
-        ) => writeln!(page, "check=clash {opcode}"),
+        Err(unsound) => match unsound.flaw {
+            Flaw::Cycle => writeln!(page, "check=cycle {}", unsound.opcode),
+            Flaw::Clash(_, _) => writeln!(page, "check=clash {}", unsound.opcode),
+        },
+    }
+}
+
+// The record as far as it is written.
+#[derive(Drop)]
+struct Page {
+    text: Vec<u8>,
+}
+
+impl Model for Page {
+    ghost use Rattle.std.specs.Prelude.{ℕ, List};
+
+    ghost Value = { List ℕ };
+
+    ghost view = { λ page. page.text.items };
+}
+
+impl Page {
+    fn new(heap: Global) -> Page
+        ensures { result ≡ [] }
+    {
+        Page {
+            text: Vec::new(heap),
+        }
+    }
+
+    fn put(&mut self, text: &[u8]) -> Result<(), AllocError>
+        ensures { OnOk result (self.new ≡ self.old ++ text.now) }
+    {
+        self.text.extend_from_slice(text)
+    }
+
+    fn put_line(&mut self, key: &[u8], value: &[u8]) -> Result<(), AllocError>
+        ensures { OnOk result (self.new ≡ self.old ++ line key.now value.now) }
+    {
+        self.put(key)?;
+        self.put(value)?;
+        self.put(b"\n")
+    }
+
+    // What `write!` and `writeln!` call.
+    fn write_fmt<D: Display + Drop>(&mut self, value: D) -> Result<(), AllocError>
+        ensures { OnOk result (IfSome (D.output value) (λ text. self.new ≡ self.old ++ text)) }
+    {
+        let text = value.to_string(*self.text.allocator())?;
+        self.put(text.as_bytes())
+    }
+
+    fn into_text(self) -> Vec<u8>
+        ensures { result.items ≡ self }
+    {
+        self.text
     }
 }

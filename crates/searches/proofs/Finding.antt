@@ -1,24 +1,15 @@
 -- What `find_map` over the numbers below n finds: the first answer, where each call answers what h gives. Assumes nothing.
-use Rattle.std.proofs.Common.{◌≡◌, ℕ, ◌+◌, ◌<◌, Some, None, Option, MatchOption, sym, ap, ◌∙◌, subst, arith, zero-add, IsTrue}
-use Rattle.std.proofs.lemmas.Iterator.Adapters.{option_map_id}
+use Rattle.std.proofs.Common.{◌≡◌, ℕ, ◌+◌, ◌<◌, Some, None, Option, MatchOption, sym, arith, IsTrue}
 use Rattle.std.specs.Fn.{Called}
-use Rattle.std.specs.Iterator.Runs.{Run, SomeRun, AllItemsGive, IsFirstToGive, CallKeepsClosure, ItemsCountUp}
+use Rattle.std.specs.Iterator.Runs.{SomeRun, AllItemsGive, IsFirstToGive, CallKeepsClosure}
 use Rattle.std.proofs.iter.Yields.{nat_range_steps}
-use Rattle.std.proofs.iter.runs.Sources.{range_runs}
-use Rattle.std.specs.declared.ops.Range.{Range}
 use denote.Param.Members.{Mut}
+use Rattle.sets.proofs.Ranges.{counts, number_at}
 
 -- r is what h gives at the first number below n at which it gives something
 abbrev pub FirstGiven : {B : Type 0} → ℕ → (ℕ → Option B) → Option B → Type 0
 FirstGiven n h None = (k : ℕ) → k < n → h k ≡ None
 FirstGiven n h (Some y) = (i : ℕ) × (i < n) × (h i ≡ Some y) × ((k : ℕ) → k < i → h k ≡ None)
-
-module _ (n : ℕ) (p : Run nat_range_steps) (from : p.from ≡ record { start = 0; end = n }) where
-  counts : ItemsCountUp p 0 n
-  counts = subst (λ (t : Range ℕ). ItemsCountUp p t.start t.end) from (range_runs p p.seen)
-
-  item : (k : ℕ) → k < p.len → p.at k ≡ Some k
-  item k l = sym (option_map_id (p.at k)) ∙ counts.3 k l ∙ ap Some (zero-add k)
 
 module _ {F B : Type 0} {g : Mut F (ℕ × Unit {0}) (Option B)} (n : ℕ) (f : F) (h : ℕ → Option B) (says : (k : ℕ) (y : Option B) (q : F) → Called g f (k, tt) y q → (q ≡ f) × (y ≡ h k)) where
   keeps : CallKeepsClosure g f
@@ -26,12 +17,12 @@ module _ {F B : Type 0} {g : Mut F (ℕ × Unit {0}) (Option B)} (n : ℕ) (f : 
 
   pub first_from_find_map : (r : Option B) → SomeRun nat_range_steps (record { start = 0; end = n }) (λ p. MatchOption r (IsTrue p.whole × AllItemsGive p g f None) (λ y. (i : ℕ) × (i < p.len) × (p.len ≡ i + 1) × IsFirstToGive p g f (Some y) None i)) → FirstGiven n h r
   first_from_find_map None (p, from, m) =
-      λ k l. let there = item n p from k (omega (arith, (counts n p from).1 m.0)) in sym (says k None f (rw there at (m.1 keeps k))).1
+      λ k l. let there = number_at n p from k (omega (arith, (counts n p from).1 m.0)) in sym (says k None f (rw there at (m.1 keeps k))).1
   first_from_find_map (Some y) (p, from, m) =
       let first = m.3 keeps in
-      let here = item n p from m.0 m.1 in (
+      let here = number_at n p from m.0 m.1 in (
         m.0,
         omega (arith, m.1, (counts n p from).0),
         sym (says m.0 (Some y) f (rw here at first.0)).1,
-        λ k l. let there = item n p from k (omega (arith, m.1)) in sym (says k None f (rw there at (first.1 k l))).1,
+        λ k l. let there = number_at n p from k (omega (arith, m.1)) in sym (says k None f (rw there at (first.1 k l))).1,
       )

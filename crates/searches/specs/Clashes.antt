@@ -1,5 +1,5 @@
 -- When two events clash, and which clashing pair is the first. Assumes nothing.
-use Rattle.std.specs.Prelude.{◌≡◌, ℕ, ◌<◌, Bool, true, false, not, ◌&&◌, ◌||◌, List, is_some, Some, None, Option, MatchOption, ◌==◌, nat_lt}
+use Rattle.std.specs.Prelude.{IsTrue, ◌≡◌, ℕ, ◌<◌, Bool, false, not, ◌&&◌, ◌||◌, List, is_some, Some, None, Option, MatchOption, ◌==◌, nat_lt}
 use Rattle.std.specs.Option.{option_map}
 use Rattle.sets.specs.Counting.{least}
 use Rattle.cpog.specs.Actions.{act}
@@ -36,7 +36,7 @@ first_clash p actions = with_partner p actions (least (λ e. is_some (partner_of
 -- in other words: a clashing pair, with no clash of a lower event, and none of its lower event with a lower one than its higher
 pub record First (p : Order) (actions : List Action) (lower higher : ℕ) : Type 0 where
   pub rising : lower < higher
-  pub clashes : clashing p actions lower higher ≡ true
+  pub clashes : IsTrue (clashing p actions lower higher)
   pub least_lower : (e f : ℕ) → e < lower → e < f → clashing p actions e f ≡ false
   pub least_higher : (f : ℕ) → lower < f → f < higher → clashing p actions lower f ≡ false
 

@@ -16,7 +16,7 @@ pub fn first_clash(projection: &Projection, actions: &[Action]) -> Option<(u8, u
         projection,
         actions,
     };
-    (0..32).find_map(|lower| steps.first_clash_of(lower))
+    steps.first_clash()
 }
 
 // The present events in their order, and what each of them does.
@@ -27,6 +27,13 @@ struct Steps<'a> {
 }
 
 impl Steps<'_> {
+    fn first_clash(&self) -> Option<(u8, u8)>
+        ensures value { result ≡ first_clash (seen self.now.projection.now) self.now.actions.now }
+        ensures law { Searched (seen self.now.projection.now) self.now.actions.now result }
+    {
+        (0..32).find_map(|lower| self.first_clash_of(lower))
+    }
+
     // The event with the least higher one that clashes with it.
     fn first_clash_of(&self, lower: u8) -> Option<(u8, u8)>
         ensures { result ≡ with_partner (seen self.now.projection.now) self.now.actions.now (Some lower) }

@@ -1,5 +1,5 @@
 // A cycle of counted arcs.
-ghost use Rattle.std.specs.Prelude.{◌≡◌, ◌≤◌, length, take};
+ghost use Rattle.std.specs.Prelude.{◌≡◌, ◌≤◌, length};
 
 mod search;
 
@@ -14,9 +14,11 @@ pub struct Cycle {
 }
 
 impl Cycle {
+    ghost use Rattle.searches.specs.Cycles.{round};
+
     // The events, in the order of the arcs.
     pub fn as_slice(&self) -> &[u8]
-        ensures value { result.now ≡ take self.now.len self.now.events }
+        ensures value { result.now ≡ round self.now }
         ensures few { length result.now ≤ 32 }
     {
         &self.events[..self.len]

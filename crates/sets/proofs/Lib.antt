@@ -2,8 +2,8 @@ pub mod Bits
 pub mod Tallies
 pub mod Leasts
 pub mod Found
+pub mod Ranges
 pub mod Everys
-pub mod Passing
 pub mod Warshall
 pub mod Room
 pub mod Membership

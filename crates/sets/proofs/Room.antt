@@ -1,9 +1,10 @@
 -- As many different numbers below a bound as there are leave no room for another. Assumes nothing.
-use Rattle.std.proofs.Common.{◌≡◌, ℕ, zero, suc, ◌+◌, ◌<◌, ◌≤◌, Bool, true, false, ◌||◌, eqb, ◌⊎◌, sym, refl, ap, ◌∙◌, subst, ap₂, inl, inr, arith}
+use Rattle.std.proofs.Common.{◌≡◌, ℕ, zero, suc, ◌+◌, ◌<◌, ◌≤◌, Bool, false, ◌||◌, eqb, ◌⊎◌, sym, refl, ap, ◌∙◌, subst, ap₂, inl, inr, arith}
 use mir.Val.{bool_byte}
 use Rattle.std.proofs.lemmas.Bool.{cases_eq, eq-eqb, ne_eqb, or_from}
 use Rattle.sets.specs.Counting.{tally}
 use Rattle.sets.proofs.Tallies.{byte_le, tally_below}
+use Rattle.std.proofs.Math.Bool.{or-false}
 
 tally_le : (p : ℕ → Bool) (n : ℕ) → tally p n ≤ n
 unfolding tally
@@ -26,12 +27,8 @@ unfolding tally
 tally_one p q zero y h f e = absurd (omega arith)
 tally_one p q (suc n) y h f e = go (λ l. tally_one p q n y l f e) (cases_eq y n)
   where
-    or_none : (b : Bool) → (b || false) ≡ b
-    or_none true = refl
-    or_none false = refl
-
     other : (k : ℕ) → (k ≡ y → ⊥) → q k ≡ p k
-    other k d = e k ∙ ap (λ (b : Bool). p k || b) (ne_eqb k y d) ∙ or_none (p k)
+    other k d = e k ∙ ap (λ (b : Bool). p k || b) (ne_eqb k y d) ∙ or-false (p k)
 
     go : (y < n → tally q n ≡ suc (tally p n)) → (y ≡ n) ⊎ (y ≡ n → ⊥) → tally q n + bool_byte (q n) ≡ suc (tally p n + bool_byte (p n))
     go rest (inl s) =

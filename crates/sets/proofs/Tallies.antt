@@ -1,5 +1,5 @@
 -- The number of set bits is the tally of the bits.
-use Rattle.std.proofs.Common.{◌≡◌, ℕ, zero, suc, ◌+◌, ◌/◌, ◌%◌, ◌^◌, ◌<◌, ◌≤◌, Bool, true, false, eqb, sym, refl, ap, ◌∙◌, ap₂, pow-suc, add-one, arith, shr-shr}
+use Rattle.std.proofs.Common.{◌≡◌, ℕ, zero, suc, ◌+◌, ◌/◌, ◌%◌, ◌^◌, ◌<◌, ◌≤◌, Bool, true, false, eqb, sym, refl, ap, ◌∙◌, ap₂, pow-suc, arith, shr-shr}
 use lib.Count.{ones, ones_step}
 use mir.Val.{bool_byte}
 use Rattle.std.proofs.lemmas.Nat.{mod_below, div_below}
@@ -8,11 +8,6 @@ use Rattle.sets.specs.Counting.{bit, tally}
 pub tally_none : (p : ℕ → Bool) → tally p 0 ≡ 0
 unfolding tally
 tally_none p = refl
-
--- one number more, as a loop has it
-pub tally_more : (p : ℕ → Bool) (n : ℕ) → tally p (n + 1) ≡ tally p n + bool_byte (p n)
-unfolding tally
-tally_more p n = rw add-one refl
 
 pub byte_le : (b : Bool) → bool_byte b ≤ 1
 byte_le true = omega arith

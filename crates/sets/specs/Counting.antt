@@ -1,5 +1,5 @@
 -- The bits of a word; how many numbers below a bound pass a test, and the least that does. Assumes nothing.
-use Rattle.std.specs.Prelude.{◌≡◌, ℕ, zero, suc, ◌+◌, ◌/◌, ◌%◌, ◌^◌, ◌<◌, Bool, true, false, ◌&&◌, Some, None, Option, ◌==◌}
+use Rattle.std.specs.Prelude.{IsTrue, ◌≡◌, ℕ, zero, suc, ◌+◌, ◌/◌, ◌%◌, ◌^◌, ◌<◌, Bool, true, false, ◌&&◌, Some, None, Option, ◌==◌}
 use mir.Val.{bool_byte}
 use Rattle.std.specs.Option.{option_or}
 use Rattle.std.specs.Bool.{then_some}
@@ -25,5 +25,5 @@ least p (suc n) = option_or (least p n) (then_some (p n) n)
 
 -- the answer is the least number below n that passes, or none of them does
 abbrev pub Least : (ℕ → Bool) → ℕ → Option ℕ → Type 0
-Least p n (Some k) = (k < n) × (p k ≡ true) × ((j : ℕ) → j < k → p j ≡ false)
+Least p n (Some k) = (k < n) × IsTrue (p k) × ((j : ℕ) → j < k → p j ≡ false)
 Least p n None = (j : ℕ) → j < n → p j ≡ false

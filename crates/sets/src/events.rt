@@ -1,9 +1,9 @@
 // A set of events, numbered 0 to 31: a word with a bit for each.
 ghost use Rattle.std.specs.Prelude.{◌≡◌, ℕ, ◌<◌, false, ◌&&◌, ◌||◌, ◌==◌, nat_lt};
-ghost use Rattle.sets.specs.Counting.{least, tally, Least};
+ghost use Rattle.sets.specs.Counting.{bit, least, tally, Least};
 ghost use Rattle.sets.specs.Members.{member};
 
-use crate::word::{alone, both, either, holds, ones};
+use crate::word::holds;
 
 #[derive(Clone, Copy, PartialEq, Eq, Debug)]
 pub struct Events {
@@ -84,4 +84,33 @@ impl Events {
     {
         (0..end).find(|event| self.has(*event))
     }
+}
+
+// What the operations on words do to their bits.
+
+// The word with bit `place` alone.
+fn alone(place: u8) -> u32
+    requires { place < 32 }
+    ensures { (k : ℕ) → bit result k ≡ (k == place) }
+{
+    1 << place
+}
+
+fn either(a: u32, b: u32) -> u32
+    ensures { (k : ℕ) → bit result k ≡ (bit a k || bit b k) }
+{
+    a | b
+}
+
+fn both(a: u32, b: u32) -> u32
+    ensures { (k : ℕ) → bit result k ≡ (bit a k && bit b k) }
+{
+    a & b
+}
+
+// How many bits are set.
+fn ones(word: u32) -> u8
+    ensures { result ≡ tally (λ k. nat_lt k 32 && bit word k) 32 }
+{
+    word.count_ones() as u8
 }

@@ -29,11 +29,10 @@ impl Relation {
     pub fn row(&self, event: u8) -> Events
         ensures { (e : ℕ) → member result e ≡ related self.now e event }
     {
-        if event < 32 {
-            self.rows[event as usize]
-        } else {
-            Events::none()
-        }
+        self.rows
+            .get(usize::from(event))
+            .copied()
+            .unwrap_or(Events::none())
     }
 
     pub fn has(&self, first: u8, second: u8) -> bool
@@ -88,9 +87,9 @@ impl Relation {
         ensures { (e f : ℕ) → related self.new e f ≡ through (related self.old) by e f }
     {
         let source = self.row(by);
-        for to in 0..32u8 {
-            if self.has(by, to) {
-                self.put(to, self.row(to).union(source));
+        for row in self.rows.iter_mut() {
+            if row.has(by) {
+                *row = row.union(source);
             }
         }
     }
@@ -100,5 +99,5 @@ fn write(rows: &mut [Events; 32], event: u8, new: Events)
     requires { event < 32 }
     ensures { (f : ℕ) → row rows.new f ≡ (if nat_eq f event then new else row rows.old f) }
 {
-    rows[event as usize] = new;
+    rows[usize::from(event)] = new;
 }

@@ -1,7 +1,7 @@
 // What a table answers as a graph.
 ghost use Rattle.std.specs.Prelude.{◌≡◌, ◌<◌, ◌^◌, nat_lt};
 ghost use Rattle.graphs.specs.Tables.{condition};
-ghost use Rattle.graphs.specs.Filled.{tabled};
+ghost use Rattle.graphs.specs.Meaning.{tabled};
 ghost use Rattle.std.proofs.Common.{rules};
 
 use crate::table::Table;

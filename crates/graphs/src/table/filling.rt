@@ -1,8 +1,8 @@
 // How a table is made and filled.
-ghost use Rattle.std.specs.Prelude.{◌≡◌, [], vec_len};
+ghost use Rattle.std.specs.Prelude.{◌≡◌, [], OnOk, OnErr, vec_len};
 ghost use Rattle.std.specs.Result.{result_err};
 ghost use Rattle.graphs.specs.Tables.{misfit, table_of};
-ghost use Rattle.graphs.specs.Filled.{tabled, Filled};
+ghost use Rattle.graphs.specs.Meaning.{tabled};
 
 use crate::table::Table;
 use cpog::refusal::Refusal;
@@ -25,7 +25,8 @@ impl Table {
     // then as it was.
     pub fn fill(&mut self, events: u8, variables: u8, bytes: Vec<u8>) -> Result<(), Refusal>
         ensures answer { result_err result ≡ misfit events variables (vec_len bytes) }
-        ensures after { Filled events variables bytes.items self.old self.new result }
+        ensures ok { OnOk result (tabled self.new ≡ table_of events variables bytes.items) }
+        ensures err { OnErr result (self.new ≡ self.old) }
     {
         if events > 32 || variables > 8 {
             return Err(Refusal::TableTooLarge);

@@ -1,5 +1,5 @@
 // The search for a cycle: from an event that precedes itself, back along the arcs among such events.
-ghost use Rattle.std.specs.Prelude.{◌≡◌, ℕ, ◌<◌, ◌≤◌, Bool, true, false, reverse, length, MatchOption};
+ghost use Rattle.std.specs.Prelude.{IsTrue, ◌≡◌, ℕ, ◌<◌, ◌≤◌, Bool, true, false, reverse, length, MatchOption};
 ghost use Rattle.sets.specs.Members.{member};
 ghost use Rattle.sets.specs.Rows.{related};
 ghost use Rattle.cpog.specs.Graphs.{counted};
@@ -43,7 +43,7 @@ struct Walker<'a> {
     arcs: &'a Relation,
     around: Events,
     start: u8,
-    ghost inside: { member around start ≡ true },
+    ghost inside: { IsTrue (member around start) },
     ghost fed: { Fed (related arcs.now) (member around) },
 }
 
@@ -67,7 +67,7 @@ impl Walker<'_> {
     fn turn(&self, walk: &[u8], event: u8) -> Option<usize>
         ensures { MatchOption result
             ((k : ℕ) → k < length walk.now → related self.now.arcs.now (nth walk.now k) event ≡ false)
-            (λ k. (k < length walk.now) × (related self.now.arcs.now (nth walk.now k) event ≡ true)) }
+            (λ k. (k < length walk.now) × IsTrue (related self.now.arcs.now (nth walk.now k) event)) }
     {
         walk.iter()
             .position(|earlier| self.arcs.has(*earlier, event))
@@ -75,9 +75,9 @@ impl Walker<'_> {
 
     // The lowest of the events walked among that has an arc to `event`, which is one of them.
     fn before(&self, event: u8) -> u8
-        requires { member self.now.around event ≡ true }
-        ensures inside { member self.now.around result ≡ true }
-        ensures step { related self.now.arcs.now result event ≡ true }
+        requires { IsTrue (member self.now.around event) }
+        ensures inside { IsTrue (member self.now.around result) }
+        ensures step { IsTrue (related self.now.arcs.now result event) }
     {
         self.arcs.row(event).common(self.around).lowest().unwrap()
     }

@@ -3,8 +3,8 @@ use Rattle.sets.specs.Members.{member}
 use Rattle.sets.specs.Rows.{related}
 use Rattle.sets.specs.declared.relation.Relation.{Relation}
 use Rattle.cpog.proofs.Counted.{RowsBelow, rows_none, rows_skip, rows_add, rows_all}
-use Rattle.cpog.proofs.scene.Scene.arcs.Goals as goal
-use Rattle.cpog.proofs.scene.Scene.arcs.Goals.{then-has, else-has}
+use Rattle.cpog.proofs.projection.Scene.arcs.Goals as goal
+use Rattle.cpog.proofs.projection.Scene.arcs.Goals.{then-has, else-has}
 
 pub loop-to-init : goal.loop-to-init
 loop-to-init g c = rows_none (g.G.Graph.meaning c.args.self.now.graph.now) c.args.self.now.opcode (related c.none-arcs.result) c.none-arcs.ensures

@@ -2,7 +2,7 @@ use Rattle.std.proofs.Common.{Bool, ◌&&◌, ltb, sym, ap, ◌∙◌, arith}
 use Rattle.std.proofs.lemmas.Bool.{lt-ltb}
 use Rattle.sets.specs.Counting.{bit}
 use Rattle.sets.proofs.Tallies.{ones-tally, tally_below}
-use Rattle.sets.proofs.word.ones.Goals as goal
+use Rattle.sets.proofs.events.ones.Goals as goal
 
 pub returns : goal.returns
 returns c =

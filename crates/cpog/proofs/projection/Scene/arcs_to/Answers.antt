@@ -2,7 +2,7 @@ use Rattle.std.proofs.Common.{◌&&◌, arith, rules, tests}
 use Rattle.sets.specs.Members.{member}
 use Rattle.std.proofs.lemmas.Bool.Decides.{nat_tests}
 use Rattle.sets.proofs.Membership.{member_all}
-use Rattle.cpog.proofs.scene.Scene.arcs_to.Goals as goal
+use Rattle.cpog.proofs.projection.Scene.arcs_to.Goals as goal
 
 pub returns : goal.returns
 returns g c =
