@@ -7,20 +7,40 @@ import glob
 import itertools
 import re
 
+
+def closing(text, start, opens, closes):
+    """Where the bracket at `start` closes; an arrow's point is no bracket."""
+    depth = 0
+    for place in range(start, len(text)):
+        if text[place] in opens:
+            depth += 1
+        elif text[place] in closes and text[place - 1] != "-":
+            depth -= 1
+            if depth == 0:
+                return place
+    return start
+
+
 pairs = collections.defaultdict(list)
 clauses = collections.defaultdict(list)
 for path in sorted(glob.glob("crates/*/src/**/*.rt", recursive=True)):
-    text = open(path, encoding="utf-8").read()
-    for name, parameters in re.findall(r"\bfn (\w+)(?:<[^>]*>)?\(([^)]*)\)", text):
-        words = sorted(p.split(":")[0].strip() for p in parameters.split(",") if ":" in p)
+    text = re.sub(r"^\s*//.*$", "", open(path, encoding="utf-8").read(), flags=re.M)
+    functions = []
+    for found in re.finditer(r"\bfn (\w+)", text):
+        start = found.end()
+        if text[start] == "<":
+            start = closing(text, start, "<", ">") + 1
+        if text[start] != "(":
+            continue
+        functions.append((found.start(), found[1]))
+        parameters = text[start + 1 : closing(text, start, "(", ")")]
+        words = sorted(re.findall(r"(\w+)\s*:(?!:)", parameters))
         for pair in itertools.combinations(words, 2):
-            pairs[pair].append(f"{path}:{name}")
-    name = ""
-    for line in text.splitlines():
-        name = (re.search(r"\bfn (\w+)", line) or [None, name])[1]
-        clause = re.match(r"\s*(?:requires|ensures)\s*\w*\s*\{(.*)\}\s*$", line)
-        if clause:
-            clauses[clause[1].strip()].append(f"{path}:{name}")
+            pairs[pair].append(f"{path}:{found[1]}")
+    for found in re.finditer(r"\b(?:requires|ensures)\b\s*\w*\s*\{", text):
+        clause = " ".join(text[found.end() : closing(text, found.end() - 1, "{", "}")].split())
+        name = [name for start, name in functions if start < found.start()][-1]
+        clauses[clause].append(f"{path}:{name}")
 for what, found, least in (("parameters", pairs, 3), ("clause", clauses, 2)):
     for key, places in sorted(found.items(), key=lambda item: -len(item[1])):
         if len(places) >= least:

@@ -139,10 +139,13 @@ fn put_verdict(page: &mut Page, verdict: Result<(), Unsound>) -> Result<(), Allo
 {
     match verdict {
         Ok(()) => writeln!(page, "check=sound"),
-        Err(unsound) => match unsound.flaw {
-            Flaw::Cycle => writeln!(page, "check=cycle {}", unsound.opcode),
-            Flaw::Clash(_, _) => writeln!(page, "check=clash {}", unsound.opcode),
-        },
+        Err(unsound) => {
+            let word = match unsound.flaw {
+                Flaw::Cycle => "cycle",
+                Flaw::Clash(_, _) => "clash",
+            };
+            writeln!(page, "check={word} {}", unsound.opcode)
+        }
     }
 }
 

@@ -1,6 +1,7 @@
 -- A walk of different events grows to at most 32, and where it turns back there is a cycle. Assumes nothing.
-use Rattle.std.proofs.Common.{◌≡◌, ℕ, zero, suc, ◌+◌, ◌-◌, ◌<◌, ◌≤◌, Bool, true, false, List, [], ◌∷◌, ◌++◌, length, reverse, drop, sym, ◌∙◌, subst, None, add-one, arith, length-drop}
+use Rattle.std.proofs.Common.{◌≡◌, ℕ, zero, suc, ◌+◌, ◌-◌, ◌<◌, ◌≤◌, Bool, true, false, ◌&&◌, List, [], ◌∷◌, ◌++◌, length, reverse, drop, sym, ◌∙◌, subst, None, add-one, arith, length-drop}
 use Rattle.std.proofs.lemmas.List.{get_or_append_left, get_or_push, length_push, length-reverse, get_or-reverse, get_or-drop}
+use Rattle.std.proofs.Math.Logic.{∥∥₁_elim}
 use Rattle.sets.specs.Chains.{Chain, Acyclic, Closure}
 use Rattle.sets.proofs.Room.{room}
 use Rattle.sets.proofs.Warshall.{chain_join}
@@ -84,10 +85,14 @@ chain_fed {r} {e} c = let l = last c in (l.0, (l.2 (Chain.one l.1), l.1))
     last (Chain.one {e} {f} s) = (e, s, λ d. d)
     last (Chain.more {e} {f} {h} s d) = let l = last d in (l.0, l.1, λ b. l.2 (chain_join b (Chain.one s)))
 
+-- so not every event is without a step to it
+pub fed_some : (r : ℕ → ℕ → Bool) (set : ℕ → Bool) → Fed r set → (e : ℕ) → set e ≡ true → ((f : ℕ) → (r f e && set f) ≡ false) → ⊥
+fed_some r set fed e t none = ∥∥₁_elim (fed e t) (λ x y. absurd x) (λ f. let n = none f.0 in let s = f.1.0 in let step = f.1.1 in grind arith)
+
 -- the events that precede themselves: s is the relation of the chains of r
 module _ (r s : ℕ → ℕ → Bool) (set : ℕ → Bool) (chains : Closure r s) (selves : (e : ℕ) → set e ≡ s e e) where
   pub selves_fed : Fed r set
-  selves_fed e t none = let fed = chain_fed (chains.sound e e (sym (selves e) ∙ t)) in let c = chains.complete fed.0 fed.0 fed.1.0 in grind (arith, fed.1.1)
+  selves_fed e t = let fed = chain_fed (chains.sound e e (sym (selves e) ∙ t)) in ∣ (fed.0, (selves fed.0 ∙ chains.complete fed.0 fed.0 fed.1.0, fed.1.1)) ∣₁
 
   -- also where r is given by another function
   pub selves_none : ((e : ℕ) → set e ≡ false) → (steps : ℕ → ℕ → Bool) → ((e f : ℕ) → r e f ≡ steps e f) → Found steps None
