@@ -4,7 +4,7 @@ use Rattle.std.proofs.lemmas.List.{get_or_append_left, get_or_push, length_push,
 use Rattle.std.proofs.Math.Logic.{∥∥₁_elim}
 use Rattle.sets.specs.Chains.{Chain, Acyclic, Closure}
 use Rattle.sets.proofs.Room.{room}
-use Rattle.sets.proofs.Warshall.{chain_join}
+use Rattle.sets.proofs.Warshall.{chain_join, chain_map}
 use Rattle.searches.specs.Cycles.{IsCycle, Found, nth}
 use Rattle.searches.specs.Walks.{Fed}
 
@@ -96,7 +96,7 @@ module _ (r s : ℕ → ℕ → Bool) (set : ℕ → Bool) (chains : Closure r s
 
   -- also where r is given by another function
   pub selves_none : ((e : ℕ) → set e ≡ false) → (steps : ℕ → ℕ → Bool) → ((e f : ℕ) → r e f ≡ steps e f) → Found steps None
-  selves_none none steps same = subst (λ (t : ℕ → ℕ → Bool). Found t None) (λ i e f. same e f i) (acyclic, λ es C. acyclic (nth es 0) (cycle_chain r es C))
+  selves_none none steps same = (acyclic, λ es C. acyclic (nth es 0) (cycle_chain steps es C))
     where
-      acyclic : Acyclic r
-      acyclic e d = grind (arith, chains.complete e e d)
+      acyclic : Acyclic steps
+      acyclic e d = let c = chain_map (λ a b t. same a b ∙ t) d in grind (arith, chains.complete e e c)
