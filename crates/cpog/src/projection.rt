@@ -104,7 +104,7 @@ pub fn present<G: Graph>(graph: &G, opcode: u16) -> Events
 fn present_below<G: Graph>(graph: &G, end: u8, opcode: u16) -> Events
     ensures { (G.meaning graph.now).events ≤ end → (e : ℕ) → member result e ≡ (G.meaning graph.now).has e opcode }
 {
-    Events::from_fn(|event| event < end && graph.has(event, opcode))
+    Events::from_fn_below(end, |event| graph.has(event, opcode))
 }
 
 // The arcs that count: those that are there between present events.
@@ -152,7 +152,7 @@ impl<'a, G: Graph> Scene<'a, G> {
     fn arcs_to(&self, to: u8) -> Events
         ensures { (e : ℕ) → member result e ≡ (member self.now.present e && (G.meaning self.now.graph.now).arc e to self.now.opcode) }
     {
-        Events::from_fn(|from| self.leads(from, to))
+        Events::from_fn_below(self.graph.events(), |from| self.leads(from, to))
     }
 
     // Whether `from` is present and has an arc to `to`: an absent event's conditions are not asked.

@@ -1,5 +1,5 @@
 -- What `try_for_each` over the opcodes gives. Assumes nothing.
-use Rattle.std.proofs.Common.{◌≡◌, ℕ, ◌+◌, ◌<◌, true, is_err, Some, None, Ok, Err, Option, Result, sym, ap, subst, inl, inr, ◌∙◌, arith}
+use Rattle.std.proofs.Common.{◌≡◌, ℕ, ◌+◌, ◌<◌, true, false, is_err, refl, Some, None, Ok, Err, Option, Result, sym, ap, subst, inl, inr, ◌∙◌, arith}
 use Rattle.std.proofs.iter.Yields.{nat_range_steps}
 use Rattle.std.proofs.lemmas.Option.{MatchOption-at_some}
 use Rattle.std.proofs.lemmas.Bool.{cases_Bool, MatchBool-at_true, MatchBool-at_false}
@@ -10,8 +10,8 @@ use Rattle.std.specs.Option.{option_map_or, IsSomeAnd}
 use Rattle.std.specs.Result.{result_from_control_flow, IsErr, IsErrAnd}
 use denote.Param.Members.{Mut}
 use Rattle.sets.proofs.Ranges.{counts, number_at}
-use Rattle.sets.specs.Counting.{Least}
-use Rattle.sets.proofs.Leasts.{least_value}
+use Rattle.sets.specs.Counting.{least, Least}
+use Rattle.sets.proofs.Leasts.{least_value, least_is}
 use Rattle.questions.specs.Opcodes.{first_err}
 
 -- every opcode is Ok, or the error is that of the least that has one
@@ -19,12 +19,30 @@ abbrev pub Firsts : {E : Type 0} → (ℕ → Result (Unit {0}) E) → Result (U
 Firsts at (Ok done) = (o : ℕ) → o < 256 → at o ≡ Ok tt
 Firsts at (Err e) = (o : ℕ) × ((o < 256) × (at o ≡ Err e) × ((q : ℕ) → q < o → at q ≡ Ok tt))
 
+-- a result that is no error
+ok_unless : {E : Type 0} (s : Result (Unit {0}) E) → is_err s ≡ false → s ≡ Ok tt
+ok_unless (Ok done) f = refl
+ok_unless (Err e) f = absurd (grind arith)
+
 pub firsts_value : {E : Type 0} (at : ℕ → Result (Unit {0}) E) (r : Result (Unit {0}) E) → Firsts at r → r ≡ first_err at
 firsts_value at (Ok done) all =
     let none : Least (λ o. is_err (at o)) 256 None = λ o l. ap is_err (all o l) in ap (λ q. option_map_or at q (Ok tt)) (least_value (λ o. is_err (at o)) 256 None none)
 firsts_value at (Err e) first =
     let found : Least (λ q. is_err (at q)) 256 (Some first.0) = (first.1.0, ap is_err first.1.1, λ q h. ap is_err (first.1.2 q h)) in
     sym first.1.1 ∙ ap (λ q. option_map_or at q (Ok tt)) (least_value (λ q. is_err (at q)) 256 (Some first.0) found)
+
+-- the other way round: what the least opcode with an error gives, or that there is none
+pub least_firsts : {E : Type 0} (at : ℕ → Result (Unit {0}) E) (r : Option ℕ) → Least (λ o. is_err (at o)) 256 r → Firsts at (option_map_or at r (Ok tt))
+least_firsts at None none = λ o l. ok_unless (at o) (none o l)
+least_firsts {E} at (Some o) found = go (at o) refl found.1
+  where
+    go : (s : Result (Unit {0}) E) → at o ≡ s → is_err s ≡ true → Firsts at s
+    go (Err e) is t = (o, (found.0, is, λ q h. ok_unless (at q) (found.2 q h)))
+    go (Ok done) is t = absurd (grind arith)
+
+-- so the first error of all is one of these
+pub firsts_is : {E : Type 0} (at : ℕ → Result (Unit {0}) E) → Firsts at (first_err at)
+firsts_is at = least_firsts at (least (λ o. is_err (at o)) 256) (least_is (λ o. is_err (at o)) 256)
 
 -- `at` is what each call answers
 pub firsts_of : {E F : Type 0} {g : Mut F (ℕ × Unit {0}) (Result (Unit {0}) E)} {f : F} {r : Result (Unit {0}) E} (at : ℕ → Result (Unit {0}) E)

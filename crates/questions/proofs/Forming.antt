@@ -1,11 +1,13 @@
 -- What the least opcode with a cycle, or that there is none, says of the chains. Assumes nothing.
 use Rattle.std.proofs.Common.{◌≡◌, ℕ, ◌^◌, ◌<◌, ◌≤◌, true, Some, None, Ok, Err, Option, Result, refl, subst, arith, pow_mono}
+use Rattle.std.specs.Option.{option_map_or}
 use Rattle.sets.specs.Chains.{Acyclic}
+use Rattle.sets.specs.Counting.{Least}
 use Rattle.cpog.specs.Graphs.{Conditions, Lawful, counted, order_at}
 use Rattle.cpog.specs.Projections.{on_cycle}
 use Rattle.cpog.proofs.Ordered.{none_on_cycle, some_on_cycle}
-use Rattle.questions.specs.Formed.{formed_at, Formed}
-use Rattle.questions.proofs.Firsts.{Firsts}
+use Rattle.questions.specs.Formed.{cyclic, formed_at, formed, Formed}
+use Rattle.questions.proofs.Firsts.{Firsts, firsts_is}
 
 -- every allowed opcode is below 256
 pub allow_small : (g : Conditions) → Lawful g → (o : ℕ) → g.allow o ≡ true → o < 256
@@ -31,3 +33,11 @@ module _ (g : Conditions) (L : Lawful g) where
   pub firsts_formed : (r : Result (Unit {0}) ℕ) → Firsts (formed_at g) r → Formed g r
   firsts_formed (Ok done) all = λ o t. ok_acyclic o (all o (allow_small g L o t)) t
   firsts_formed (Err p) first = at_err first.0 p first.1.1 (λ q h t. ok_acyclic q (first.1.2 q h) t)
+
+  -- so the answer means what it says, and so does the least opcode that is cyclic
+  pub formed_means : Formed g (formed g)
+  formed_means = firsts_formed (formed g) (firsts_is (formed_at g))
+
+  pub least_formed : (r : Option ℕ) → Least (cyclic g) 256 r → Formed g (option_map_or Err r (Ok tt))
+  least_formed None none = λ o t. let c = none o (allow_small g L o t) in ok_acyclic o (grind arith) t
+  least_formed (Some o) found = at_err o o (let c = found.1 in grind arith) (λ q h t. let c = found.2 q h in ok_acyclic q (grind arith) t)

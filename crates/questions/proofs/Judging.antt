@@ -2,12 +2,12 @@
 use Rattle.std.proofs.Common.{◌≡◌, ℕ, true, List, Some, None, Ok, Err, Option, Result, subst, arith}
 use Rattle.cpog.specs.Graphs.{Conditions, Lawful}
 use Rattle.cpog.specs.declared.action.Action.{Action}
-use Rattle.questions.specs.Checks.{judged, judged_at, SoundBelow, Verdicts}
+use Rattle.questions.specs.Checks.{judged, judged_at, verdict, SoundBelow, Verdicts}
 use Rattle.questions.specs.Outcomes.{outcome_at, Comes, HasOneResult}
 use Rattle.questions.specs.declared.check.Unsound.{Unsound}
 use Rattle.questions.specs.declared.outcome.Flaw.{Flaw}
 use Rattle.questions.proofs.Coming.{outcome_comes}
-use Rattle.questions.proofs.Firsts.{Firsts}
+use Rattle.questions.proofs.Firsts.{Firsts, firsts_is}
 use Rattle.questions.proofs.Forming.{allow_small}
 
 module _ (g : Conditions) (actions : List Action) (L : Lawful g) where
@@ -32,3 +32,7 @@ module _ (g : Conditions) (actions : List Action) (L : Lawful g) where
   pub firsts_verdicts : (r : Result (Unit {0}) Unsound) → Firsts (judged_at g actions) r → Verdicts g actions r
   firsts_verdicts (Ok done) all = λ o t. ok_result o (all o (allow_small g L o t)) t
   firsts_verdicts (Err u) first = at_err first.0 u first.1.1 (λ q h t. ok_result q (first.1.2 q h) t)
+
+  -- so the verdict means what it says
+  pub verdict_means : Verdicts g actions (verdict g actions)
+  verdict_means = firsts_verdicts (verdict g actions) (firsts_is (judged_at g actions))

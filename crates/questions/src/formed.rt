@@ -16,6 +16,10 @@ pub fn well_formed<G: Graph>(graph: &G) -> Result<(), u16>
         |opcode| -> Result<(), u16>
             ensures { result ≡ formed_at (G.meaning graph.entry.now) opcode }
         {
+            // As in `outcome_at`, no place is made where the opcode is not allowed.
+            if !graph.allow(opcode) {
+                return Ok(());
+            }
             let mut place = Projection::new();
             match place.project(graph, opcode) {
                 Err(Refusal::Cycle(_)) => Err(opcode),

@@ -7,7 +7,6 @@ ghost use Rattle.questions.specs.Outcomes.{outcome_at, end_result, Comes};
 use cpog::action::Action;
 use cpog::graph::Graph;
 use cpog::projection::Projection;
-use cpog::refusal::Refusal;
 use searches::clash::first_clash;
 
 // Why there is no end result, or not just one.
@@ -25,12 +24,14 @@ pub fn outcome_at<G: Graph>(graph: &G, actions: &[Action], opcode: u16) -> Optio
     ensures value { result ≡ outcome_at (G.meaning graph.now) actions.now opcode }
     ensures law { Comes (G.meaning graph.now) actions.now opcode result }
 {
+    // Asked first, so that no place is made where most opcodes are not allowed.
+    if !graph.allow(opcode) {
+        return None;
+    }
     let mut place = Projection::new();
     match place.project(graph, opcode) {
         Ok(()) => Some(no_clash(&place, actions)),
-        Err(Refusal::Cycle(_)) => Some(Err(Flaw::Cycle)),
-        // The opcode is not allowed.
-        Err(_) => None,
+        Err(_) => Some(Err(Flaw::Cycle)),
     }
 }
 

@@ -1,7 +1,7 @@
 // A set of events, numbered 0 to 31: a word with a bit for each.
-ghost use Rattle.std.specs.Prelude.{◌≡◌, ℕ, ◌<◌, false, ◌&&◌, ◌||◌, ◌==◌, nat_lt};
+ghost use Rattle.std.specs.Prelude.{◌≡◌, ℕ, ◌<◌, ◌≤◌, false, ◌&&◌, ◌||◌, ◌==◌, nat_lt};
 ghost use Rattle.sets.specs.Counting.{bit, least, tally, Least};
-ghost use Rattle.sets.specs.Members.{member};
+ghost use Rattle.sets.specs.Members.{member, alone};
 
 use crate::word::holds;
 
@@ -23,8 +23,17 @@ impl Events {
         requires { F.IsAlwaysCallable test }
         ensures { (e : ℕ) → e < 32 → F.post test e (member result e) }
     {
+        Events::from_fn_below(32, test)
+    }
+
+    // The events below `end` that pass the test, which is asked of no others.
+    pub fn from_fn_below<F: Fn(u8) -> bool>(end: u8, test: F) -> Events
+        requires { F.IsAlwaysCallable test }
+        ensures tested { (e : ℕ) → e < end → e < 32 → F.post test e (member result e) }
+        ensures others { (e : ℕ) → end ≤ e → member result e ≡ false }
+    {
         let mut found = Events::none();
-        for event in 0..32 {
+        for event in 0..end {
             if test(event) {
                 found.insert(event);
             }
@@ -32,12 +41,25 @@ impl Events {
         found
     }
 
+    // The set of `event` alone if it is `there`, else the empty set. Numbers from 32 on are no events.
+    pub fn single(event: u8, there: bool) -> Events
+        ensures { (e : ℕ) → member result e ≡ alone event there e }
+    {
+        if event < 32 {
+            Events {
+                word: single(event, there),
+            }
+        } else {
+            Events::none()
+        }
+    }
+
     // Adds `event`. Numbers from 32 on are no events.
     pub fn insert(&mut self, event: u8)
         ensures { (e : ℕ) → member self.new e ≡ (member self.old e || (nat_lt e 32 && e == event)) }
     {
         if event < 32 {
-            self.word = either(self.word, alone(event));
+            self.word = either(self.word, bit_alone(event));
         }
     }
 
@@ -88,8 +110,17 @@ impl Events {
 
 // What the operations on words do to their bits.
 
+// The word with bit `place` alone if it is `there`, else 0.
+#[tactic(auto, using(crate::proofs::Bits::bit_of_zero))]
+fn single(place: u8, there: bool) -> u32
+    requires { place < 32 }
+    ensures { (k : ℕ) → bit result k ≡ (k == place && there) }
+{
+    if there { bit_alone(place) } else { 0 }
+}
+
 // The word with bit `place` alone.
-fn alone(place: u8) -> u32
+fn bit_alone(place: u8) -> u32
     requires { place < 32 }
     ensures { (k : ℕ) → bit result k ≡ (k == place) }
 {

@@ -60,7 +60,7 @@ impl Relation {
     fn selves_below(&self, end: u8) -> Events
         ensures { (e : ℕ) → member result e ≡ (nat_lt e end && related self.now e e) }
     {
-        Events::from_fn(|event| event < end && self.has(event, event))
+        Events::from_fn_below(end, |event| self.has(event, event))
     }
 
     // Makes this relation that of its chains, of one or more steps.

@@ -1,10 +1,14 @@
 use Rattle.std.proofs.Common.{◌&&◌, arith, rules, tests}
+use Rattle.std.proofs.lemmas.Bool.{and_parts}
 use Rattle.sets.specs.Members.{member}
-use Rattle.std.proofs.lemmas.Bool.Decides.{nat_tests}
-use Rattle.sets.proofs.Membership.{member_all}
+use Rattle.sets.proofs.Membership.{member_below}
 use Rattle.cpog.proofs.projection.Scene.arcs_to.Goals as goal
 
 pub returns : goal.returns
 returns g c =
-    member_all c.from_fn.result (λ e. member c.args.self.now.present e && (g.G.Graph.meaning c.args.self.now.graph.now).arc e c.args.to c.args.self.now.opcode)
-    (λ e h. let asked = c.from_fn.ensures e h in search (rules, tests)) (λ e t. grind (arith, nat_tests))
+    let scene = c.args.self.now in
+    let m = g.G.Graph.meaning scene.graph.now in
+    let L = g.met.G.Graph.lawful scene.graph.now in
+    member_below c.from_fn_below.result c.events.result (λ e. member scene.present e && m.arc e c.args.to scene.opcode)
+    (λ e l h. let asked = c.from_fn_below.ensures.tested e l h in search (rules, tests)) c.from_fn_below.ensures.others
+    (λ e t. let inside = (L.arc_inside e c.args.to scene.opcode (and_parts (member scene.present e) (m.arc e c.args.to scene.opcode) t).1).0 in (omega (arith, L.few_events, inside), omega (arith, c.events.ensures, inside)))
