@@ -24,7 +24,7 @@ pub fn outcome_at<G: Graph>(graph: &G, actions: &[Action], opcode: u16) -> Optio
     ensures value { result ≡ outcome_at (G.meaning graph.now) actions.now opcode }
     ensures law { Comes (G.meaning graph.now) actions.now opcode result }
 {
-    // Asked first, so that no place is made where most opcodes are not allowed.
+    // With few variables most opcodes are not allowed: no place is made for those.
     if !graph.allow(opcode) {
         return None;
     }

@@ -28,6 +28,13 @@ module _ (p : Order) (actions : List Action) where
   abbrev has_partner : ℕ → Bool
   has_partner e = is_some (partner_of p actions e)
 
+  -- an absent event has no partner
+  pub absent_alone : (e : ℕ) → p.present e ≡ false → with_partner p actions (Some e) ≡ None
+  absent_alone e absent = ap (option_map (λ f. (e, f))) (sym (least_value (is_partner e) 32 None none))
+    where
+      none : Least (is_partner e) 32 None
+      none f h = grind (arith, clashing_present e f)
+
   module _ (inside : (e : ℕ) → p.present e ≡ true → e < 32) where
     -- an event without a partner clashes with no higher one
     quiet : (e f : ℕ) → has_partner e ≡ false → e < f → clashing p actions e f ≡ false

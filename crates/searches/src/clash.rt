@@ -34,10 +34,15 @@ impl Steps<'_> {
         (0..32).find_map(|lower| self.first_clash_of(lower))
     }
 
-    // The event with the least higher one that clashes with it.
+    // The event with the least higher one that clashes with it. An absent event clashes with none, so
+    // the others are not asked.
+    #[tactic(auto, using(crate::proofs::Clashing::absent_alone))]
     fn first_clash_of(&self, lower: u8) -> Option<(u8, u8)>
         ensures { result ≡ with_partner (seen self.now.projection.now) self.now.actions.now (Some lower) }
     {
+        if !self.projection.is_present(lower) {
+            return None;
+        }
         let higher = self.partner(lower)?;
         Some((lower, higher))
     }

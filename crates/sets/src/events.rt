@@ -26,7 +26,7 @@ impl Events {
         Events::from_fn_below(32, test)
     }
 
-    // The events below `end` that pass the test, which is asked of no others.
+    // The events below `end` that pass the test. It is asked of the numbers below `end` alone.
     pub fn from_fn_below<F: Fn(u8) -> bool>(end: u8, test: F) -> Events
         requires { F.IsAlwaysCallable test }
         ensures tested { (e : ℕ) → e < end → e < 32 → F.post test e (member result e) }
